@@ -1,0 +1,181 @@
+-- A write reads back, and leaves the field ready for the next.
+use Prim.Native.Nat.{ℕ, zero, suc, _+_, _-_, _≤_, _<_}
+use mathlib.Core.Path.{_≡_, refl, sym, ap, _∙_}
+use mathlib.Core.Logic.{_⊎_, inl, inr}
+use mathlib.Core.Bool.{Bool, true, false, cond, _&&_}
+use mathlib.Core.List.{List, [], _∷_}
+use native.Mathlib.Omega.{arith}
+use lib.ListN.{length, getD}
+use lib.Dec.{leb, ltb, eqb}
+use borrow.Author.Tests.{le-leb, lt-leb, lt-ltb, ltb-true, eq-eqb, ne-eqb}
+use Rattle.code.specs.Deal.{written, deal, plainly}
+use Rattle.code.specs.Layout.{room}
+use Rattle.code.specs.Field.{zeros, past, base, start, carriers, told, pattern, Reading, unread, reads, read, erase, cleared, lay, after, refused, wrote, writeAt, writeOn, write}
+use Rattle.code.specs.Lists.{Upto}
+use Rattle.code.proofs.Tests.{le-or-lt}
+use Rattle.code.proofs.Deal.{deal-is, plainly-is, plain-written}
+use Rattle.code.proofs.Conditions.{Holds, Layout, holds-falls, holds-room, head-most}
+use Rattle.code.proofs.Groups.{Grows, zeros-written, upto-grows, erase-wiped, erase-zeros, erase-length, lay-is, lay-blank, lay-grows, erase-lay-grows}
+
+base-bounds : (e first n : ℕ) → 2 ≤ e → first ≤ 1 → (0 < base e n) × (e - 1 ≤ base e n) × (start first n ≤ 1)
+unfolding base start
+base-bounds e first zero h f = omega arith
+base-bounds e first (suc n) h f = omega arith
+
+-- A generation's pattern of a number that it has room for.
+pub record Pictured (e b first h h′ x : ℕ) (p : List ℕ) : Type 0 where
+  pub long : length p ≡ h
+  pub low : first ≤ written p
+  pub keeps : h′ ≤ zeros p
+  pub small : Upto b p
+  pub back : told e b first h′ p ≡ x
+
+pub pattern-is : (e b first h h′ x : ℕ) → 0 < b → e - 1 ≤ b → 0 < e → first ≤ 1 → h′ < h → x < room e b first h h′ → Pictured e b first h h′ x (pattern e b first h h′ x)
+unfolding room told pattern
+pattern-is e b first h zero x pos eb ep f l hx =
+    let p = plainly-is e h (x + 1) ep (omega arith) in
+    let w = plain-written e (plainly e h (x + 1)) (omega (arith, p .back)) in
+    record { long = p .long; low = omega arith; keeps = omega arith; small = upto-grows (e - 1) b eb (plainly e h (x + 1)) (p .small); back = omega (arith, p .back) }
+pattern-is e b first h (suc h′) x pos eb ep f l hx =
+    let d = deal-is b first h (h - suc h′) x pos (omega arith) hx in
+    record { long = d .long; low = d .low; keeps = omega (arith, d .high, d .long, zeros-written (deal b first h x)); small = d .small; back = d .back }
+
+-- Where the zero groups point.
+pub past-next : (hs : List ℕ) (z : ℕ) → getD hs (suc (past hs z)) 0 ≤ z
+unfolding past
+past-next [] z = omega arith
+past-next (h ∷ hs) z = elim (le-or-lt (getD hs 0 0) z) [
+  | inl l ↦ rw (le-leb (getD hs 0 0) z l) l
+  | inr g ↦ rw (lt-leb (getD hs 0 0) z g) (past-next hs z)
+]
+
+pub past-is : (e b first : ℕ) (hs vs : List ℕ) (n z : ℕ) → Holds e b first hs vs → getD hs (suc n) 0 ≤ z → (n ≡ 0) ⊎ (z < getD hs n 0) → past hs z ≡ n
+unfolding Holds past
+past-is e b first [] vs n z m h (inl q) = sym q
+past-is e b first [] vs n z m h (inr q) = absurd (omega arith)
+past-is e b first (k ∷ hs) [] n z m h q = absurd m
+past-is e b first (k ∷ hs) (v ∷ vs) zero z m h q = rw (le-leb (getD hs 0 0) z h)
+past-is e b first (k ∷ hs) (v ∷ vs) (suc n) z m h (inl q) = absurd (omega arith)
+past-is e b first (k ∷ hs) (v ∷ vs) (suc n) z m h (inr q) =
+    rw (lt-leb (getD hs 0 0) z (omega (arith, head-most e (e - 1) 1 hs vs n (m .2)))) (ap suc (past-is e (e - 1) 1 hs vs n z (m .2) h (inr q)))
+
+-- which groups generation n + 1 may be written on
+abbrev pub Ready : List ℕ → ℕ → List ℕ → Type 0
+Ready hs zero gs = written gs ≡ 0
+Ready hs (suc n) gs = getD hs (suc n) 0 ≤ zeros gs
+
+both : (a b : Bool) (j : ℕ) (ks : List ℕ) (i : ℕ) (gs : List ℕ) → cond (a && b) (wrote j ks) refused ≡ wrote i gs → (a ≡ true) × (b ≡ true) × (i ≡ j) × (gs ≡ ks)
+both true true j ks i gs h = (refl, refl, cc, cc)
+both true false j ks i gs h = let z : _≡_ {A = ℕ} 0 1 = cc in absurd (omega arith)
+both false b j ks i gs h = let z : _≡_ {A = ℕ} 0 1 = cc in absurd (omega arith)
+
+reads-which : (t : Bool) (j x i y : ℕ) → cond t (reads j x) unread ≡ reads i y → i ≡ j
+reads-which true j x i y h = cc
+reads-which false j x i y h = cc
+
+module _ (e first : ℕ) (hs vs : List ℕ) where
+  read-is : (gs p : List ℕ) (n x : ℕ) → past hs (zeros gs) ≡ n → carriers e n gs ≡ p → start first n ≤ written p → length p ≡ getD hs n 0 →
+      told e (base e n) (start first n) (getD hs (suc n) 0) p ≡ x → x < getD vs n 0 → read e first hs vs gs ≡ reads (suc n) x
+  unfolding read
+  read-is gs p n x a c w l t h = rw (a, c, t, le-leb (start first n) (written p) w, eq-eqb (length p) (getD hs n 0) l, lt-ltb x (getD vs n 0) h)
+
+  read-past : (gs : List ℕ) (i y : ℕ) → read e first hs vs gs ≡ reads i y → i ≡ suc (past hs (zeros gs))
+  unfolding read
+  read-past gs i y r =
+      let n = past hs (zeros gs) in
+      let xs = carriers e n gs in
+      let x = told e (base e n) (start first n) (getD hs (suc n) 0) xs in
+      reads-which (leb (start first n) (written xs) && (eqb (length xs) (getD hs n 0) && ltb x (getD vs n 0))) (suc n) x i y r
+
+  -- Where a write goes.
+  pub write-blank : (x : ℕ) (gs : List ℕ) → written gs ≡ 0 → write e first hs vs x gs ≡ writeAt e first hs vs x gs 0
+  unfolding write
+  write-blank x gs z = rw (eq-eqb (written gs) 0 z)
+
+  pub write-read : (x : ℕ) (gs : List ℕ) (r : Reading) → 0 < written gs → read e first hs vs gs ≡ r → write e first hs vs x gs ≡ writeOn e first hs vs x gs r
+  unfolding write
+  write-read x gs r z q = rw (ne-eqb (written gs) 0 (λ q. omega arith), q)
+
+  write-at : (x : ℕ) (gs : List ℕ) (n i : ℕ) (gs′ : List ℕ) → writeAt e first hs vs x gs n ≡ wrote i gs′ →
+      (n < length hs) × (x < getD vs n 0) × (i ≡ suc n) × (gs′ ≡ after e first hs n x gs)
+  unfolding writeAt
+  write-at x gs n i gs′ w =
+      let q = both (ltb n (length hs)) (ltb x (getD vs n 0)) (suc n) (after e first hs n x gs) i gs′ w in
+      (ltb-true n (length hs) (q .0), ltb-true x (getD vs n 0) (q .1), q .2, q .3)
+
+  -- what a write of x at generation n + 1 leaves
+  pub record After (n x : ℕ) (gs gs′ : List ℕ) : Type 0 where
+    pub long : length gs′ ≡ length gs
+    pub small : Upto e gs′
+    pub back : read e first hs vs gs′ ≡ reads (suc n) x
+    pub tells : told e (base e n) (start first n) (getD hs (suc n) 0) (carriers e n gs′) ≡ x
+    pub ready : getD hs (suc n) 0 ≤ zeros gs′
+    pub marked : start first n ≤ written gs′
+    pub grows : Grows e gs gs′
+
+  -- what an accepted write of x at generation i leaves
+  pub record Wrote (x : ℕ) (gs : List ℕ) (i : ℕ) (gs′ : List ℕ) : Type 0 where
+    pub reading : read e first hs vs gs′ ≡ reads i x
+    pub long : length gs′ ≡ length gs
+    pub small : Upto e gs′
+    pub grows : Grows e gs gs′
+
+  module _ (y : Layout e first hs vs) where
+    pictured : (n x : ℕ) → n < length hs → x < getD vs n 0 →
+        Pictured e (base e n) (start first n) (getD hs n 0) (getD hs (suc n) 0) x (pattern e (base e n) (start first n) (getD hs n 0) (getD hs (suc n) 0) x)
+    pictured n x nl hx =
+        let q = base-bounds e first n (y .wide) (y .form) in
+        pattern-is e (base e n) (start first n) (getD hs n 0) (getD hs (suc n) 0) x (q .0) (q .1) (omega (arith, y .wide)) (q .2) (holds-falls e e first hs vs n (y .holds) nl) (omega (arith, holds-room e first hs vs n (y .holds) nl))
+
+    pub after-is : (n x : ℕ) (gs : List ℕ) → n < length hs → x < getD vs n 0 → length gs ≡ getD hs 0 0 → Ready hs n gs → After n x gs (after e first hs n x gs)
+    unfolding after cleared base start carriers
+    after-is zero x gs nl hx l r =
+        let p = pattern e (base e 0) (start first 0) (getD hs 0 0) (getD hs 1 0) x in
+        let q = pictured 0 x nl hx in
+        let same : lay gs p ≡ p = lay-blank gs p r (q .long ∙ sym l) in
+        rw same (record {
+          long = q .long ∙ sym l;
+          small = q .small;
+          back = read-is p p 0 x (past-is e e first hs vs 0 (zeros p) (y .holds) (q .keeps) (inl refl)) refl (q .low) (q .long) (q .back) hx;
+          tells = q .back;
+          ready = q .keeps;
+          marked = q .low;
+          grows = rw same at (lay-grows e gs p);
+        })
+    after-is (suc n) x gs nl hx l r =
+        let h = getD hs (suc n) 0 in
+        let p = pattern e (base e (suc n)) (start first (suc n)) h (getD hs (suc (suc n)) 0) x in
+        let q = pictured (suc n) x nl hx in
+        let k = zeros gs - h in
+        let pos : 0 < e = omega (arith, y .wide) in
+        let a = lay-is e (erase e k gs) p pos (erase-wiped e k gs) (omega (arith, q .long, erase-zeros e k gs pos)) (q .small) in
+        let z : zeros p < h = omega (arith, zeros-written p, q .long, q .low) in
+        record {
+          long = a .long ∙ erase-length e k gs;
+          small = a .small;
+          back = read-is (lay (erase e k gs) p) p (suc n) x (past-is e e first hs vs (suc n) (zeros (lay (erase e k gs) p)) (y .holds) (rw (a .left) (q .keeps)) (inr (rw (a .left) z))) (a .carried) (q .low) (q .long) (q .back) hx;
+          tells = rw (a .carried) (q .back);
+          ready = rw (a .left) (q .keeps);
+          marked = omega (arith, z, a .left, a .long, erase-length e k gs, zeros-written (lay (erase e k gs) p), l, head-most e e first hs vs (suc n) (y .holds));
+          grows = erase-lay-grows e k gs p pos;
+        }
+
+    -- An accepted write reads back as its generation and number.
+    pub write-is : (x : ℕ) (gs : List ℕ) (i : ℕ) (gs′ : List ℕ) → length gs ≡ getD hs 0 0 → write e first hs vs x gs ≡ wrote i gs′ → Wrote x gs i gs′
+    unfolding writeOn
+    write-is x gs i gs′ l w = elim (le-or-lt (written gs) 0) [
+      | inl z ↦ at 0 (omega arith) (sym (write-blank x gs (omega arith)) ∙ w)
+      | inr z ↦ nonblank z (read e first hs vs gs) refl
+    ]
+      where
+        at : (n : ℕ) → Ready hs n gs → writeAt e first hs vs x gs n ≡ wrote i gs′ → Wrote x gs i gs′
+        at n r h =
+            let q = write-at x gs n i gs′ h in
+            let a = after-is n x gs (q .0) (q .1) l r in
+            rw (q .2, q .3) (record { reading = a .back; long = a .long; small = a .small; grows = a .grows })
+
+        nonblank : 0 < written gs → (r : Reading) → read e first hs vs gs ≡ r → Wrote x gs i gs′
+        nonblank z unread h = let c : _≡_ {A = ℕ} 0 1 = cc (write-read x gs unread z h) in absurd (omega arith)
+        nonblank z (reads j y) h =
+            let q = read-past gs j y h in
+            at (suc (past hs (zeros gs))) (past-next hs (zeros gs)) (rw q at (sym (write-read x gs (reads j y) z h) ∙ w))

@@ -1,0 +1,114 @@
+-- Erasing groups and laying a pattern into the zero ones.
+use Prim.Native.Nat.{ℕ, zero, suc, _+_, _-_, _≤_, _<_}
+use mathlib.Core.Path.{_≡_, refl, ap, _∙_}
+use mathlib.Core.Logic.{_⊎_, inl, inr}
+use mathlib.Core.List.{List, [], _∷_}
+use native.Mathlib.Omega.{arith}
+use lib.ListN.{length}
+use borrow.Author.Tests.{eq-eqb, ne-eqb}
+use Rattle.code.specs.Deal.{written}
+use Rattle.code.specs.Field.{zeros, unerased, erase, lay}
+use Rattle.code.specs.Lists.{Upto}
+
+-- as many groups; each was 0, or is as it was, or is e
+abbrev pub Grows : ℕ → List ℕ → List ℕ → Type 0
+Grows e [] [] = Unit {0}
+Grows e [] (y ∷ ys) = ⊥
+Grows e (x ∷ xs) [] = ⊥
+Grows e (x ∷ xs) (y ∷ ys) = ((x ≡ 0) ⊎ ((y ≡ x) ⊎ (y ≡ e))) × Grows e xs ys
+
+pub zeros-written : (p : List ℕ) → zeros p + written p ≡ length p
+unfolding zeros written
+zeros-written [] = refl
+zeros-written (zero ∷ p) = omega (arith, zeros-written p)
+zeros-written (suc x ∷ p) = omega (arith, zeros-written p)
+
+pub upto-grows : (a b : ℕ) → a ≤ b → (p : List ℕ) → Upto a p → Upto b p
+upto-grows a b h [] u = tt
+upto-grows a b h (x ∷ p) u = (omega (arith, u .0), upto-grows a b h p (u .1))
+
+-- every group is 0 or e
+abbrev pub Wiped : ℕ → List ℕ → Type 0
+Wiped e [] = Unit {0}
+Wiped e (x ∷ xs) = ((x ≡ 0) ⊎ (x ≡ e)) × Wiped e xs
+
+zeros-skip : (x : ℕ) (xs : List ℕ) → 0 < x → zeros (x ∷ xs) ≡ zeros xs
+unfolding zeros
+zeros-skip zero xs h = absurd (omega arith)
+zeros-skip (suc x) xs h = refl
+
+zeros-tails : (x : ℕ) (xs ys : List ℕ) → zeros xs ≡ zeros ys → zeros (x ∷ xs) ≡ zeros (x ∷ ys)
+unfolding zeros
+zeros-tails zero xs ys h = ap suc h
+zeros-tails (suc x) xs ys h = h
+
+lay-skip : (x : ℕ) (xs ps : List ℕ) → 0 < x → lay (x ∷ xs) ps ≡ x ∷ lay xs ps
+unfolding lay
+lay-skip zero xs ps h = absurd (omega arith)
+lay-skip (suc x) xs ps h = refl
+
+-- erasing leaves zeros and e, and `spare` zeros fewer
+pub erase-wiped : (e spare : ℕ) (gs : List ℕ) → Wiped e (erase e spare gs)
+unfolding erase
+erase-wiped e spare [] = tt
+erase-wiped e spare (suc x ∷ gs) = (inr refl, erase-wiped e spare gs)
+erase-wiped e zero (zero ∷ gs) = (inl refl, erase-wiped e zero gs)
+erase-wiped e (suc spare) (zero ∷ gs) = (inr refl, erase-wiped e spare gs)
+
+pub erase-zeros : (e spare : ℕ) (gs : List ℕ) → 0 < e → zeros (erase e spare gs) ≡ zeros gs - spare
+unfolding erase zeros
+erase-zeros e spare [] pos = omega arith
+erase-zeros e spare (suc x ∷ gs) pos = zeros-skip e (erase e spare gs) pos ∙ erase-zeros e spare gs pos
+erase-zeros e zero (zero ∷ gs) pos = omega (arith, erase-zeros e zero gs pos)
+erase-zeros e (suc spare) (zero ∷ gs) pos = omega (arith, zeros-skip e (erase e spare gs) pos, erase-zeros e spare gs pos)
+
+pub erase-length : (e spare : ℕ) (gs : List ℕ) → length (erase e spare gs) ≡ length gs
+unfolding erase
+erase-length e spare [] = refl
+erase-length e spare (suc x ∷ gs) = ap suc (erase-length e spare gs)
+erase-length e zero (zero ∷ gs) = ap suc (erase-length e zero gs)
+erase-length e (suc spare) (zero ∷ gs) = ap suc (erase-length e spare gs)
+
+-- a pattern of values below e laid into all the zero groups is what is not erased
+pub record Laid (e : ℕ) (gs p after : List ℕ) : Type 0 where
+  pub carried : unerased e after ≡ p
+  pub left : zeros after ≡ zeros p
+  pub long : length after ≡ length gs
+  pub small : Upto e after
+
+pub lay-is : (e : ℕ) (gs p : List ℕ) → 0 < e → Wiped e gs → length p ≡ zeros gs → Upto (e - 1) p → Laid e gs p (lay gs p)
+unfolding lay zeros unerased
+lay-is e [] [] pos w l u = record { carried = refl; left = refl; long = refl; small = tt }
+lay-is e [] (y ∷ p) pos w l u = absurd (omega arith)
+lay-is e (suc x ∷ gs) p pos w l u =
+    let ih = lay-is e gs p pos (w .1) l u in
+    let q : suc x ≡ e = elim (w .0) [ inl z ↦ absurd (omega arith) | inr q ↦ q ] in
+    record { carried = rw (eq-eqb (suc x) e q) (ih .carried); left = ih .left; long = ap suc (ih .long); small = (omega arith, ih .small) }
+lay-is e (zero ∷ gs) [] pos w l u = absurd (omega arith)
+lay-is e (zero ∷ gs) (y ∷ p) pos w l u =
+    let ih = lay-is e gs p pos (w .1) (omega arith) (u .1) in
+    record { carried = rw (ne-eqb y e (λ q. omega (arith, u .0)), ih .carried); left = zeros-tails y (lay gs p) p (ih .left); long = ap suc (ih .long); small = (omega (arith, u .0), ih .small) }
+
+-- into blank groups
+pub lay-blank : (gs p : List ℕ) → written gs ≡ 0 → length p ≡ length gs → lay gs p ≡ p
+unfolding lay written
+lay-blank [] [] z l = refl
+lay-blank [] (y ∷ p) z l = absurd (omega arith)
+lay-blank (suc x ∷ gs) p z l = absurd (omega arith)
+lay-blank (zero ∷ gs) [] z l = absurd (omega arith)
+lay-blank (zero ∷ gs) (y ∷ p) z l = ap (λ (t : List ℕ). y ∷ t) (lay-blank gs p z (omega arith))
+
+pub lay-grows : (e : ℕ) (gs p : List ℕ) → Grows e gs (lay gs p)
+unfolding lay
+lay-grows e [] p = tt
+lay-grows e (suc x ∷ gs) p = (inr (inl refl), lay-grows e gs p)
+lay-grows e (zero ∷ gs) [] = (inl refl, lay-grows e gs [])
+lay-grows e (zero ∷ gs) (y ∷ p) = (inl refl, lay-grows e gs p)
+
+pub erase-lay-grows : (e spare : ℕ) (gs p : List ℕ) → 0 < e → Grows e gs (lay (erase e spare gs) p)
+unfolding lay erase
+erase-lay-grows e spare [] p pos = tt
+erase-lay-grows e spare (suc x ∷ gs) p pos = rw (lay-skip e (erase e spare gs) p pos) (inr (inr refl), erase-lay-grows e spare gs p pos)
+erase-lay-grows e zero (zero ∷ gs) [] pos = (inl refl, erase-lay-grows e zero gs [] pos)
+erase-lay-grows e zero (zero ∷ gs) (y ∷ p) pos = (inl refl, erase-lay-grows e zero gs p pos)
+erase-lay-grows e (suc spare) (zero ∷ gs) p pos = rw (lay-skip e (erase e spare gs) p pos) (inl refl, erase-lay-grows e spare gs p pos)

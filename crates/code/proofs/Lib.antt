@@ -1,0 +1,13 @@
+pub mod Tests
+pub mod Count
+pub mod Deal
+pub mod Conditions
+pub mod Grant
+pub mod Groups
+pub mod Field
+pub mod Run
+pub mod Bits
+pub mod Wits
+pub mod Numbers
+pub mod Cells
+pub mod Worked

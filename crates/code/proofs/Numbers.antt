@@ -1,0 +1,90 @@
+-- The number that wits make, lists of such numbers, and sums of wits. The wits are any function, so none of this looks at bytes.
+use mathlib.Core.Path.{_≡_, refl, sym, ap, _∙_}
+use mathlib.Core.Logic.{_≢_}
+use Prim.Native.Nat.{ℕ, zero, suc, _+_, _*_, _-_, _^_, _/_, _%_, _≤_, _<_, max}
+use native.Mathlib.Omega.{arith}
+use native.Mathlib.Numerals.{add-one}
+use native.Mathlib.Decide.{ℕ-discrete}
+use native.Mathlib.Nat.{sub-zero, sub-self, div-one, div-eq-of-lt, pow-succ', pow-suc, div-div-eq-div-mul, suc-add, add-suc, add-zero, zero-add, lt-irrefl, lt-of-lt-of-le, le-refl, le-trans}
+use lib.Pow.{pow-mono}
+use lib.Arith.{lt-of-le-ne}
+use lib.Count as popcount
+use lib.ListN.{length, getD, set, length-set}
+use lib.Seq.{getD-set-same, getD-set-other, ext-getD}
+use Rattle.code.specs.Cells.{value, listed, sum}
+use Rattle.code.proofs.Bits.{bit, bit-suc, bits-ext, or-snoc}
+
+pub value-same : (f g : ℕ → ℕ) (w n : ℕ) → ((i : ℕ) → i < n → f (w + i) ≡ g (w + i)) → value f w n ≡ value g w n
+unfolding value
+value-same f g w zero e = refl
+value-same f g w (suc n) e = omega (arith, value-same f g w n (λ i h. e i (omega arith)), e n (omega arith))
+
+pub value-lt : (f : ℕ → ℕ) (w n : ℕ) → ((k : ℕ) → f k < 2) → value f w n < 2 ^ n
+unfolding value
+value-lt f w zero b = omega arith
+value-lt f w (suc n) b = omega (arith, value-lt f w n b, b (w + n), pow-succ' 2 n)
+
+pub value-byte : (f : ℕ → ℕ) (w n : ℕ) → ((k : ℕ) → f k < 2) → n ≤ 8 → value f w n < 256
+value-byte f w n b h = lt-of-lt-of-le (value-lt f w n b) (pow-mono {j = 8} h)
+
+-- bit q of n wits is the wit that has q after it
+pub value-bit : (f : ℕ → ℕ) (w d q n : ℕ) → ((k : ℕ) → f k < 2) → n ≡ suc (d + q) → bit q (value f w n) ≡ f (w + d)
+unfolding value
+value-bit f w d q zero b e = absurd (omega arith)
+value-bit f w d zero (suc n) b e =
+    let s : d ≡ n = omega arith in
+    rw s (omega (arith, b (w + n)))
+value-bit f w d (suc q) (suc n) b e =
+    let s : value f w (suc n) / 2 ≡ value f w n = omega (arith, b (w + n)) in
+    bit-suc q (value f w (suc n)) ∙ rw s (value-bit f w d q n b (omega arith))
+
+-- wits that are the bits of a number make it
+pub value-is : (f : ℕ → ℕ) (w n x : ℕ) → ((k : ℕ) → f k < 2) → x < 2 ^ n → ((i : ℕ) → i < n → f (w + i) ≡ bit (n - 1 - i) x) → value f w n ≡ x
+value-is f w n x b h e = bits-ext n (value f w n) x (value-lt f w n b) h
+    (λ q l.
+    let p : n - 1 - (n - 1 - q) ≡ q = omega arith in
+    value-bit f w (n - 1 - q) q n b (omega arith) ∙ rw p at (e (n - 1 - q) (omega arith)))
+
+-- wits that make 0 are 0, and the other way
+pub value-zero : (f : ℕ → ℕ) (w n i : ℕ) → value f w n ≡ 0 → i < n → f (w + i) ≡ 0
+unfolding value
+value-zero f w zero i e h = absurd (omega arith)
+value-zero f w (suc n) i e h = elim (ℕ-discrete i n) [ yes s ↦ rw s (omega arith) | no d ↦ value-zero f w n i (omega arith) (lt-of-le-ne (omega arith) d) ]
+
+pub value-none : (f : ℕ → ℕ) (w n : ℕ) → ((i : ℕ) → i < n → f (w + i) ≡ 0) → value f w n ≡ 0
+unfolding value
+value-none f w zero e = refl
+value-none f w (suc n) e = omega (arith, value-none f w n (λ i h. e i (omega arith)), e n (omega arith))
+
+-- a list by its places
+pub listed-length : (f : ℕ → ℕ) (i n : ℕ) → length (listed f i n) ≡ n
+unfolding listed
+listed-length f i zero = refl
+listed-length f i (suc n) = ap suc (listed-length f (suc i) n)
+
+pub listed-at : (f : ℕ → ℕ) (i n k : ℕ) → k < n → getD (listed f i n) k 0 ≡ f (i + k)
+unfolding listed
+listed-at f i zero k h = absurd (omega arith)
+listed-at f i (suc n) zero h = ap f (sym (add-zero i))
+listed-at f i (suc n) (suc k) h = listed-at f (suc i) n k (omega arith) ∙ rw (suc-add, add-suc)
+
+-- two functions that differ at place j only
+pub listed-set : (f g : ℕ → ℕ) (n j : ℕ) → j < n → ((k : ℕ) → k ≢ j → g k ≡ f k) → listed g 0 n ≡ set (listed f 0 n) j (g j)
+listed-set f g n j h e = ext-getD 0 (listed g 0 n) (set (listed f 0 n) j (g j)) (simp (length-set, listed-length))
+    (λ i hi.
+    let hn : i < n = omega (arith, listed-length g 0 n) in
+    listed-at g 0 n i hn ∙ elim (ℕ-discrete i j) [
+      | yes s ↦ rw (s, getD-set-same (listed f 0 n) j (g j) 0 (omega (arith, listed-length f 0 n)), zero-add)
+      | no d ↦ rw (getD-set-other (listed f 0 n) j i (g j) 0 d, listed-at f 0 n i hn, zero-add, e i d)
+    ])
+
+pub sum-same : (f g : ℕ → ℕ) (n : ℕ) → ((k : ℕ) → k < n → g k ≡ f k) → sum f n ≡ sum g n
+unfolding sum
+sum-same f g zero e = refl
+sum-same f g (suc n) e = omega (arith, sum-same f g n (λ k h. e k (omega arith)), e n (omega arith))
+
+-- the differences of two sums
+pub sum-difference : (f g : ℕ → ℕ) (n : ℕ) → ((k : ℕ) → f k ≤ g k) → sum (λ k. g k - f k) n + sum f n ≡ sum g n
+unfolding sum
+sum-difference f g zero e = refl
+sum-difference f g (suc n) e = omega (arith, sum-difference f g n e, e n)

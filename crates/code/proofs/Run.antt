@@ -1,0 +1,211 @@
+-- Demand 3 on groups: which writes of a sequence are accepted.
+use Prim.Native.Nat.{ℕ, zero, suc, _+_, _-_, _≤_, _<_, min}
+use mathlib.Core.Path.{_≡_, refl, sym, _∙_}
+use mathlib.Core.Logic.{inl, inr}
+use mathlib.Core.List.{List, [], _∷_}
+use native.Mathlib.Omega.{arith}
+use native.Mathlib.Nat.{pow-zero, min-eq-right}
+use lib.ListN.{length, getD, take, replicate, length-replicate, length-take, getD-replicate}
+use lib.Dec.{leb}
+use borrow.Author.Tests.{le-leb, lt-leb, lt-ltb, le-ltb}
+use Rattle.code.specs.Count.{choose, fewer}
+use Rattle.code.specs.Deal.{written, rank, digits, number}
+use Rattle.code.specs.Field.{zeros, base, start, carriers, told, reads, read, after, refused, wrote, writeAt, writeOn, write}
+use Rattle.code.specs.Run.{accepted, kept, run, opening, next, InRange}
+use Rattle.code.specs.Lists.{Below}
+use Rattle.code.proofs.Tests.{le-or-lt}
+use Rattle.code.proofs.Count.{fewer-grows}
+use Rattle.code.proofs.Conditions.{Layout, holds-length, holds-falls}
+use Rattle.code.proofs.Field.{Ready, After, after-is, write-blank, write-read}
+
+-- The pattern that writes nothing has number 0, and where it is allowed no other has.
+blank-parts : (b : ℕ) (p : List ℕ) → written p ≡ 0 → (rank p ≡ 0) × (digits b p ≡ 0)
+unfolding written rank digits
+blank-parts b [] h = (refl, refl)
+blank-parts b (zero ∷ p) h = blank-parts b p h
+blank-parts b (suc x ∷ p) h = absurd (omega arith)
+
+pub blank-number : (b first : ℕ) (p : List ℕ) → written p ≡ 0 → number b first p ≡ 0
+unfolding number fewer
+blank-number b first p h = let q = blank-parts b p h in rw (h, q .0, q .1, pow-zero)
+
+fewer-one : (b s : ℕ) → fewer b s 0 1 ≡ 1
+unfolding fewer choose
+fewer-one b s = rw pow-zero
+
+pub number-blank : (b : ℕ) (p : List ℕ) → number b 0 p ≡ 0 → written p ≡ 0
+unfolding number
+number-blank b p h = elim (le-or-lt (written p) 0) [
+  | inl z ↦ omega arith
+  | inr g ↦ absurd (omega (arith, fewer-one b (length p), fewer-grows b (length p) 0 1 (written p) g))
+]
+
+told-inner : (e b first h′ : ℕ) (p : List ℕ) → 0 < h′ → told e b first h′ p ≡ number b first p
+unfolding told
+told-inner e b first zero p h = absurd (omega arith)
+told-inner e b first (suc h′) p h = refl
+
+-- How the count of used generations goes on.
+next-most : (first t c x : ℕ) → next first t c x ≤ t
+unfolding next
+next-most zero t zero zero = omega arith
+next-most zero t zero (suc x) = omega arith
+next-most zero t (suc c) x = omega arith
+next-most (suc first) t c x = omega arith
+
+next-up : (first t c x : ℕ) → 0 < c + first → next first t c x ≡ min t (suc c)
+unfolding next
+next-up zero t zero x h = absurd (omega arith)
+next-up zero t (suc c) x h = refl
+next-up (suc first) t c x h = refl
+
+-- the generations used once each of a list is tried
+tally : ℕ → ℕ → ℕ → List ℕ → ℕ
+tally first t c [] = c
+tally first t c (x ∷ xs) = tally first t (next first t c x) xs
+
+tally-up : (first t c : ℕ) (xs : List ℕ) → 0 < t → 0 < c + first → c ≤ t → tally first t c xs ≡ min t (c + length xs)
+unfolding tally
+tally-up first t c [] pos h l = omega arith
+tally-up first t c (x ∷ xs) pos h l = rw (next-up first t c x h, tally-up first t (min t (suc c)) xs pos (omega arith) (omega arith)) (omega arith)
+
+tally-is : (first t : ℕ) (xs : List ℕ) → 0 < t → tally first t 0 xs ≡ min t (length xs - opening first xs)
+unfolding tally opening next
+tally-is zero t [] pos = omega arith
+tally-is zero t (zero ∷ xs) pos = omega (arith, tally-is zero t xs pos)
+tally-is zero t (suc x ∷ xs) pos = rw (tally-up 0 t (min t 1) xs pos (omega arith) (omega arith)) (omega arith)
+tally-is (suc first) t xs pos = rw (tally-up (suc first) t 0 xs pos (omega arith) (omega arith)) (omega arith)
+
+opening-take : (first : ℕ) (xs : List ℕ) (j : ℕ) → opening first (take j xs) ≡ min j (opening first xs)
+unfolding opening
+opening-take zero [] zero = omega arith
+opening-take zero [] (suc j) = omega arith
+opening-take zero (x ∷ xs) zero = omega arith
+opening-take zero (zero ∷ xs) (suc j) = omega (arith, opening-take zero xs j)
+opening-take zero (suc x ∷ xs) (suc j) = omega arith
+opening-take (suc first) xs j = omega arith
+
+-- Numbers in range: of a sequence up to a place, and at it; and for equal ranges.
+in-range-at : (first : ℕ) (vs : List ℕ) (c : ℕ) (xs : List ℕ) (j : ℕ) → InRange first vs c xs → j < length xs →
+    InRange first vs c (take j xs) × (tally first (length vs) c (take j xs) < length vs → getD xs j 0 < getD vs (tally first (length vs) c (take j xs)) 0)
+unfolding InRange tally
+in-range-at first vs c [] j r h = absurd (omega arith)
+in-range-at first vs c (x ∷ xs) zero r h = (tt, r .0)
+in-range-at first vs c (x ∷ xs) (suc j) r h =
+    let ih = in-range-at first vs (next first (length vs) c x) xs j (r .1) (omega arith) in
+    ((r .0, ih .0), ih .1)
+
+pub equal-range : (first t v c : ℕ) (xs : List ℕ) → Below v xs → InRange first (replicate t v) c xs
+unfolding InRange
+equal-range first t v c [] u = tt
+equal-range first t v c (x ∷ xs) u =
+    (λ l. omega (arith, u .0, getD-replicate t c v 0 (omega (arith, length-replicate t v))), equal-range first t v (next first (length (replicate t v)) c x) xs (u .1))
+
+pub blank-written : (h : ℕ) → written (replicate h 0) ≡ 0
+unfolding written
+blank-written zero = refl
+blank-written (suc h) = blank-written h
+
+-- the groups that a try of x leaves
+unfoldable pub tried : ℕ → ℕ → List ℕ → List ℕ → ℕ → List ℕ → List ℕ
+tried e first hs vs x gs = kept gs (write e first hs vs x gs)
+
+module _ (e first : ℕ) (hs vs : List ℕ) where
+  -- groups on which c generations are used
+  abbrev pub Stands : ℕ → List ℕ → Type 0
+  Stands zero gs = written gs ≡ 0
+  Stands (suc n) gs = (0 < written gs) × ((y : ℕ) × (read e first hs vs gs ≡ reads (suc n) y)) × (getD hs (suc n) 0 ≤ zeros gs)
+
+  stands-ready : (c : ℕ) (gs : List ℕ) → Stands c gs → Ready hs c gs
+  stands-ready zero gs s = s
+  stands-ready (suc n) gs s = s .2
+
+  stands-write : (x c : ℕ) (gs : List ℕ) → Stands c gs → write e first hs vs x gs ≡ writeAt e first hs vs x gs c
+  unfolding writeOn
+  stands-write x zero gs s = write-blank e first hs vs x gs s
+  stands-write x (suc n) gs s = write-read e first hs vs x gs (reads (suc n) (s .1 .0)) (s .0) (s .1 .1)
+
+  stands-up : (c x : ℕ) (gs gs′ : List ℕ) → c < length hs → 0 < written gs′ → After e first hs vs c x gs gs′ → Stands (min (length hs) (suc c)) gs′
+  stands-up c x gs gs′ l w a = rw (min-eq-right l) (w, (x, a .back), a .ready)
+
+  -- the groups hold their field, and c generations are used
+  pub record Held (c : ℕ) (gs : List ℕ) : Type 0 where
+    pub long : length gs ≡ getD hs 0 0
+    pub most : c ≤ length hs
+    pub stands : Stands c gs
+
+  pub blank-held : Held 0 (replicate (getD hs 0 0) 0)
+  blank-held = record { long = length-replicate (getD hs 0 0) 0; most = omega arith; stands = blank-written (getD hs 0 0) }
+
+  -- a write where no generation is left
+  pub spent : (x c : ℕ) (gs : List ℕ) → Held c gs → length hs ≤ c → write e first hs vs x gs ≡ refused
+  unfolding writeAt
+  spent x c gs k h = stands-write x c gs (k .stands) ∙ rw (le-ltb c (length hs) h)
+
+-- generation 1 leaves the cells blank exactly where the number is one of the opening zeros
+first-tells : (e first : ℕ) (hs vs : List ℕ) (x : ℕ) (gs gs′ : List ℕ) → Layout e first hs vs → After e first hs vs 0 x gs gs′ → number e first gs′ ≡ x
+unfolding base start carriers
+first-tells e first hs vs x gs gs′ y a = sym (told-inner e e first (getD hs 1 0) gs′ (omega (arith, holds-falls e e first hs vs 1 (y .holds) (y .two)))) ∙ a .tells
+
+start-pos : (first c : ℕ) → 0 < first → 0 < start first c
+unfolding start
+start-pos first zero h = h
+start-pos first (suc c) h = omega arith
+
+after-stands : (e first : ℕ) (hs vs : List ℕ) (c x : ℕ) (gs gs′ : List ℕ) → Layout e first hs vs → c < length hs → After e first hs vs c x gs gs′ → Stands e first hs vs (next first (length hs) c x) gs′
+unfolding next start
+after-stands e zero hs vs zero zero gs gs′ y l a = number-blank e gs′ (first-tells e 0 hs vs 0 gs gs′ y a)
+after-stands e zero hs vs zero (suc x) gs gs′ y l a = elim (le-or-lt (written gs′) 0) [
+  | inl z ↦ absurd (omega (arith, first-tells e 0 hs vs (suc x) gs gs′ y a, blank-number e 0 gs′ (omega arith)))
+  | inr w ↦ stands-up e 0 hs vs 0 (suc x) gs gs′ l w a
+]
+after-stands e zero hs vs (suc c) x gs gs′ y l a = stands-up e 0 hs vs (suc c) x gs gs′ l (a .marked) a
+after-stands e (suc first) hs vs c x gs gs′ y l a = stands-up e (suc first) hs vs c x gs gs′ l (omega (arith, a .marked, start-pos (suc first) c (omega arith))) a
+
+module _ (e first : ℕ) (hs vs : List ℕ) (y : Layout e first hs vs) where
+  -- a write where a generation is left
+  pub taken : (c x : ℕ) (gs : List ℕ) → Held e first hs vs c gs → c < length hs → x < getD vs c 0 →
+      (write e first hs vs x gs ≡ wrote (suc c) (after e first hs c x gs)) × After e first hs vs c x gs (after e first hs c x gs)
+  unfolding writeAt
+  taken c x gs k cl hx = (
+    stands-write e first hs vs x c gs (k .stands) ∙ rw (lt-ltb c (length hs) cl, lt-ltb x (getD vs c 0) hx),
+    after-is e first hs vs y c x gs cl hx (k .long) (stands-ready e first hs vs c gs (k .stands)),
+  )
+
+  -- the run keeps count
+  step : (c x : ℕ) (gs : List ℕ) → Held e first hs vs c gs → (c < length hs → x < getD vs c 0) → Held e first hs vs (next first (length hs) c x) (kept gs (write e first hs vs x gs))
+  unfolding kept
+  step c x gs k r = elim (le-or-lt (length hs) c) [
+    | inl g ↦
+        let full : min (length hs) (suc c) ≡ c = omega (arith, k .most) in
+        rw (spent e first hs vs x c gs k g, next-up first (length hs) c x (omega (arith, y .two)), full) k
+    | inr l ↦
+        let q = taken c x gs k l (r l) in
+        rw (q .0) (record { long = q .1 .long ∙ k .long; most = next-most first (length hs) c x; stands = after-stands e first hs vs c x gs (after e first hs c x gs) y l (q .1) })
+  ]
+
+  same-length : length vs ≡ length hs
+  same-length = holds-length e e first hs vs (y .holds)
+
+  run-held : (c : ℕ) (gs xs : List ℕ) → Held e first hs vs c gs → InRange first vs c xs → Held e first hs vs (tally first (length hs) c xs) (run (tried e first hs vs) gs xs)
+  unfolding run tried tally InRange
+  run-held c gs [] k r = k
+  run-held c gs (x ∷ xs) k r =
+      let r′ : (c < length hs → x < getD vs c 0) × InRange first vs (next first (length hs) c x) xs = rw same-length at r in
+      run-held (next first (length hs) c x) (kept gs (write e first hs vs x gs)) xs (step c x gs k (r′ .0)) (r′ .1)
+
+  -- Demand 3. The write at place j of a sequence from blank cells, which is write j + 1, is accepted exactly when j + 1 less the opening zeros is at most the number of generations.
+  pub accepts : (xs : List ℕ) (j : ℕ) → InRange first vs 0 xs → j < length xs →
+      accepted (write e first hs vs (getD xs j 0) (run (tried e first hs vs) (replicate (getD hs 0 0) 0) (take j xs))) ≡ leb (suc j - opening first xs) (length hs)
+  unfolding accepted
+  accepts xs j r l =
+      let two = y .two in
+      let c = tally first (length hs) 0 (take j xs) in
+      let gs = run (tried e first hs vs) (replicate (getD hs 0 0) 0) (take j xs) in
+      let i : InRange first vs 0 (take j xs) × (c < length hs → getD xs j 0 < getD vs c 0) = rw same-length at (in-range-at first vs 0 xs j r l) in
+      let k = run-held 0 (replicate (getD hs 0 0) 0) (take j xs) (blank-held e first hs vs) (i .0) in
+      let n : c ≡ min (length hs) (min j (length xs) - min j (opening first xs)) = rw (tally-is first (length hs) (take j xs) (omega arith), length-take, opening-take) in
+      elim (le-or-lt (suc j - opening first xs) (length hs)) [
+        | inl g ↦ rw (le-leb (suc j - opening first xs) (length hs) g, taken c (getD xs j 0) gs k (omega arith) (i .1 (omega arith)) .0)
+        | inr g ↦ rw (lt-leb (suc j - opening first xs) (length hs) g, spent e first hs vs (getD xs j 0) c gs k (omega arith))
+      ]

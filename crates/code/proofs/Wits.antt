@@ -1,0 +1,67 @@
+-- A wit of bytes: its place, a byte stored, and bytes told by their wits. Only the laws of `place` look at the order.
+use mathlib.Core.Path.{_≡_, refl, _∙_}
+use mathlib.Core.Logic.{_≢_}
+use mathlib.Core.List.{List}
+use Prim.Native.Nat.{ℕ, zero, suc, _+_, _*_, _^_, _/_, _%_, _≤_, _<_}
+use native.Mathlib.Omega.{arith}
+use native.Mathlib.Decide.{ℕ-discrete}
+use native.Mathlib.Nat.{zero-div, one-mul, mod-eq-of-lt, mul-le-mul, mul-le-mul-left, mul-suc, le-trans}
+use native.Mathlib.Numerals.{add-one}
+use lib.Pow.{shl-exact}
+use mir.Syntax.{w64}
+use mir.Val.{Fits}
+use lib.Bits.{bitOr}
+use lib.ListN.{length, getD, set, List·getD-eq-default}
+use lib.Seq.{getD-set-same, getD-set-other, ext-getD}
+use Rattle.code.specs.Cells.{place, wit}
+use Rattle.code.proofs.Bits.{bit-lt, bits-ext, set-same, set-other}
+
+pub place-lt : (o w : ℕ) → place o w < 8
+unfolding place
+place-lt zero w = omega arith
+place-lt (suc o) w = omega arith
+
+pub place-low : (o w : ℕ) → o ≢ 0 → place o w ≡ w % 8
+unfolding place
+place-low zero w ne = absurd (ne refl)
+place-low (suc o) w ne = refl
+
+pub place-inj : (o k w : ℕ) → k / 8 ≡ w / 8 → place o k ≡ place o w → k ≡ w
+unfolding place
+place-inj zero k w e p = omega arith
+place-inj (suc o) k w e p = omega arith
+
+-- the place of a place is the wit again, and a whole byte changes nothing
+pub place-place : (o w : ℕ) → place o (place o w) ≡ w % 8
+unfolding place
+place-place zero w = omega arith
+place-place (suc o) w = omega arith
+
+pub place-byte : (o i w : ℕ) → place o (8 * i + w) ≡ place o w
+unfolding place
+place-byte zero i w = omega arith
+place-byte (suc o) i w = omega arith
+
+pub wit-lt : (o : ℕ) (bs : List ℕ) (w : ℕ) → wit o bs w < 2
+unfolding wit
+wit-lt o bs w = bit-lt (place o w) (getD bs (w / 8) 0)
+
+pub wit-past : (o : ℕ) (bs : List ℕ) (w : ℕ) → 8 * length bs ≤ w → wit o bs w ≡ 0
+unfolding wit
+wit-past o bs w h = rw (List·getD-eq-default bs 0 {n = w / 8} (omega arith), zero-div)
+
+-- every byte of a list is below 256
+abbrev pub Bytes : List ℕ → Type 0
+Bytes bs = (i : ℕ) → i < length bs → getD bs i 0 < 256
+
+-- bytes told by their wits
+pub wit-ext : (o : ℕ) (xs ys : List ℕ) → length xs ≡ length ys → Bytes xs → Bytes ys → ((w : ℕ) → w < 8 * length xs → wit o xs w ≡ wit o ys w) → xs ≡ ys
+unfolding wit
+wit-ext o xs ys n hx hy e = ext-getD 0 xs ys n
+    (λ i h. bits-ext 8 (getD xs i 0) (getD ys i 0) (hx i h) (hy i (omega arith)) (λ q hq.
+    let w : ℕ = 8 * i + place o q in
+    let b : place o q < 8 = place-lt o q in
+    let s : w / 8 ≡ i = omega arith in
+    let p : place o w ≡ q = place-byte o i (place o q) ∙ place-place o q ∙ mod-eq-of-lt hq in
+    let t : getD xs (w / 8) 0 / 2 ^ place o w % 2 ≡ getD ys (w / 8) 0 / 2 ^ place o w % 2 = e w (omega arith) in
+    rw (s, p) at t))

@@ -1,0 +1,63 @@
+-- Document 01, "Cells in bytes". Cells are bytes; their wits are a function from a wit's number to 0 or 1.
+use Prim.Native.Nat.{ℕ, zero, suc, _+_, _*_, _-_, _^_, _/_, _%_}
+use mathlib.Core.Bool.{Bool, _&&_}
+use mathlib.Core.List.{List, [], _∷_}
+use lib.Dec.{eqb}
+use lib.ListN.{length, getD}
+
+-- "Wit w is bit 7 − (w mod 8) of byte w div 8": order 0, the high bit first; order 1 is the low bit first
+unfoldable pub place : ℕ → ℕ → ℕ
+place zero w = 7 - w % 8
+place (suc order) w = w % 8
+
+unfoldable pub wit : ℕ → List ℕ → ℕ → ℕ
+wit order bytes w = getD bytes (w / 8) 0 / 2 ^ place order w % 2
+
+-- "the first is the high bit of the group's value": the number that the n wits from w on make
+unfoldable pub value : (ℕ → ℕ) → ℕ → ℕ → ℕ
+value f w zero = 0
+value f w (suc n) = 2 * value f w n + f (w + n)
+
+-- f i, f (i + 1), .., n of them; and f 0 + .. + f (n − 1)
+unfoldable pub listed : (ℕ → ℕ) → ℕ → ℕ → List ℕ
+listed f i zero = []
+listed f i (suc n) = f i ∷ listed f (suc i) n
+
+unfoldable pub sum : (ℕ → ℕ) → ℕ → ℕ
+sum f zero = 0
+sum f (suc n) = sum f n + f n
+
+-- "Group j (from 0, called leftmost) takes wits m·j to m·j + m − 1"; and the first h groups
+unfoldable pub group : ℕ → (ℕ → ℕ) → ℕ → ℕ
+group m f j = value f (m * j) m
+
+unfoldable pub groups : ℕ → ℕ → (ℕ → ℕ) → List ℕ
+groups m h f = listed (group m f) 0 h
+
+-- the groups in a buffer
+abbrev pub opened : ℕ → ℕ → ℕ → List ℕ → List ℕ
+opened order m h bytes = groups m h (wit order bytes)
+
+-- "The buffer is exactly the least number of bytes that holds m·h_1 wits; the bits left over are 0"
+abbrev pub size : ℕ → ℕ → ℕ
+size m h = (m * h + 7) / 8
+
+unfoldable pub sound : ℕ → ℕ → ℕ → List ℕ → Bool
+sound order m h bytes = eqb (length bytes) (size m h) && eqb (value (wit order bytes) (m * h) (8 * length bytes - m * h)) 0
+
+-- the way back: wit w of groups of m wits, 0 past the last; byte i of wits; and the buffer of groups
+unfoldable pub witOf : ℕ → List ℕ → ℕ → ℕ
+witOf m gs w = getD gs (w / m) 0 / 2 ^ (m - 1 - w % m) % 2
+
+unfoldable pub byteOf : ℕ → (ℕ → ℕ) → ℕ → ℕ
+byteOf order f i = sum (λ k. f (8 * i + k) * 2 ^ place order k) 8
+
+unfoldable pub stored : ℕ → ℕ → List ℕ → List ℕ
+stored order m gs = listed (byteOf order (witOf m gs)) 0 (size m (length gs))
+
+-- 01, Writing: "the number of ones in the cells", and "the count of wits turned from 0 to 1"
+unfoldable pub ones : ℕ → List ℕ → ℕ
+ones order bytes = sum (wit order bytes) (8 * length bytes)
+
+unfoldable pub turned : ℕ → List ℕ → List ℕ → ℕ
+turned order before after = sum (λ w. wit order after w - wit order before w) (8 * length before)

@@ -1,0 +1,20 @@
+-- Statements about lists of numbers that the theorems cite.
+use Prim.Native.Nat.{ℕ, _≤_, _<_}
+use mathlib.Core.List.{List, [], _∷_}
+
+-- every number is at most b
+abbrev pub Upto : ℕ → List ℕ → Type 0
+Upto b [] = Unit {0}
+Upto b (x ∷ xs) = (x ≤ b) × Upto b xs
+
+-- every number is below v
+abbrev pub Below : ℕ → List ℕ → Type 0
+Below v [] = Unit {0}
+Below v (x ∷ xs) = (x < v) × Below v xs
+
+-- as many numbers, and none of the first list is above its fellow in the second
+abbrev pub Rises : List ℕ → List ℕ → Type 0
+Rises [] [] = Unit {0}
+Rises [] (y ∷ ys) = ⊥
+Rises (x ∷ xs) [] = ⊥
+Rises (x ∷ xs) (y ∷ ys) = (x ≤ y) × Rises xs ys

@@ -1,0 +1,22 @@
+-- `counting::binomial` meets its contract. Assumes nothing.
+use mathlib.Core.Path.{_≡_, _∙_}
+use native.Mathlib.Omega.{arith}
+use borrow.Author.Needs.{needs}
+use Rattle.counting.proofs.Laws.{choose-above, symmetry}
+use Rattle.counting.proofs.binomial.Statement.{statement}
+use Rattle.counting.proofs.binomial.Tie as tie
+
+pub binomial-spec : {M : Type 1} → statement M
+binomial-spec =
+    tie.close
+    (tie.spec
+    -- returns
+    (λ c. omega (arith, choose-above (c .before .args .n) (c .before .args .k) (c .if1 .taken)))
+    -- half-requires
+    (λ c κs. search needs)
+    -- returns-2
+    (λ c. let a = c .before .before .before .args in rw (symmetry (a .n) (a .k) (omega arith)) (c .half .ensures))
+    -- half-requires-2
+    (λ c κs. search needs)
+    -- returns-3
+    (λ c. c .half2 .ensures))
