@@ -57,3 +57,94 @@ holds-room e first [] vs n m l = absurd (omega arith)
 holds-room e first (h ∷ hs) [] n m l = absurd m
 holds-room e first (h ∷ hs) (v ∷ vs) zero m l = m .1
 holds-room e first (h ∷ hs) (v ∷ vs) (suc n) m l = later-room e hs vs n (m .2) (omega arith)
+
+-- the same by place, as document 01 numbers the conditions, z being the last place
+record Each (e b first z : ℕ) (hs vs : List ℕ) : Type 0 where
+  size : length hs ≡ suc z
+  many : length hs ≡ length vs
+  falls : (i : ℕ) → suc i < length hs → getD hs (suc i) 0 < getD hs i 0
+  ends : 0 < getD hs z 0
+  opens : 1 < length hs → getD vs 0 0 ≤ fewer b (getD hs 0 0) first (suc (getD hs 0 0 - getD hs 1 0))
+  goes : (i : ℕ) → 0 < i → suc i < length hs → getD vs i 0 ≤ fewer (e - 1) (getD hs i 0) 1 (suc (getD hs i 0 - getD hs (suc i) 0))
+  closes : getD vs z 0 ≤ e ^ getD hs z 0 - 1
+
+room-inner : (e b first h h′ : ℕ) → 0 < h′ → room e b first h h′ ≡ fewer b h first (suc (h - h′))
+unfolding room
+room-inner e b first h zero p = absurd (omega arith)
+room-inner e b first h (suc h′) p = refl
+
+head-above : (e b first k : ℕ) (hs vs : List ℕ) → Holds e b first (k ∷ hs) vs → 0 < k
+unfolding Holds
+head-above e b first k hs [] y = absurd y
+head-above e b first k hs (v ∷ vs) y = omega (arith, y .0)
+
+each-holds : (e b first z : ℕ) (hs vs : List ℕ) → Each e b first z hs vs → Holds e b first hs vs
+unfolding Holds room
+each-holds e b first z [] vs y = absurd (omega (arith, y .size))
+each-holds e b first z (h ∷ hs) [] y = absurd (omega (arith, y .many))
+each-holds e b first zero (h ∷ []) (v ∷ []) y = (y .ends, y .closes, tt)
+each-holds e b first z (h ∷ []) (v ∷ w ∷ vs) y = absurd (omega (arith, y .many))
+each-holds e b first (suc z) (h ∷ []) (v ∷ []) y = absurd (omega (arith, y .size))
+each-holds e b first zero (h ∷ k ∷ hs) (v ∷ vs) y = absurd (omega (arith, y .size))
+each-holds e b first (suc z) (h ∷ k ∷ hs) (v ∷ vs) y =
+    let later : Each e (e - 1) 1 z (k ∷ hs) vs = record {
+      size = omega (arith, y .size);
+      many = omega (arith, y .many);
+      falls = λ i l. y .falls (suc i) (omega arith);
+      ends = y .ends;
+      opens = λ l. y .goes 1 (omega arith) (omega arith);
+      goes = λ i p l. y .goes (suc i) (omega arith) (omega arith);
+      closes = y .closes;
+    } in
+    let ih = each-holds e (e - 1) 1 z (k ∷ hs) vs later in
+    (y .falls 0 (omega arith), rw (room-inner e b first h k (head-above e (e - 1) 1 k hs vs ih)) (y .opens (omega arith)), ih)
+
+-- the other way, place by place
+holds-ends : (e b first z : ℕ) (hs vs : List ℕ) → Holds e b first hs vs → length hs ≡ suc z → (0 < getD hs z 0) × (getD vs z 0 ≤ e ^ getD hs z 0 - 1)
+unfolding Holds room
+holds-ends e b first z [] vs y l = absurd (omega arith)
+holds-ends e b first z (h ∷ hs) [] y l = absurd y
+holds-ends e b first zero (h ∷ []) (v ∷ vs) y l = (y .0, y .1)
+holds-ends e b first (suc z) (h ∷ []) (v ∷ vs) y l = absurd (omega arith)
+holds-ends e b first zero (h ∷ k ∷ hs) (v ∷ vs) y l = absurd (omega arith)
+holds-ends e b first (suc z) (h ∷ k ∷ hs) (v ∷ vs) y l = holds-ends e (e - 1) 1 z (k ∷ hs) vs (y .2) (omega arith)
+
+holds-positive : (e b first : ℕ) (hs vs : List ℕ) (n : ℕ) → Holds e b first hs vs → n < length hs → 0 < getD hs n 0
+holds-positive e b first hs vs n y l = omega (arith, holds-falls e b first hs vs n y l)
+
+-- Conditions a to d, with a range for each generation, are what the proofs go by.
+module _ (m first : ℕ) (hs vs : List ℕ) (two : 2 ≤ length vs) where
+  pub meets-holds : Meets m first hs vs → Holds (2 ^ m - 1) (2 ^ m - 1) first hs vs
+  meets-holds y =
+      let q : 2 ^ m - 2 ≡ 2 ^ m - 1 - 1 = omega arith in
+      each-holds (2 ^ m - 1) (2 ^ m - 1) first (length hs - 1) hs vs (record {
+        size = omega (arith, y .many);
+        many = y .many;
+        falls = y .a-falls;
+        ends = y .a-ends;
+        opens = λ l. y .b;
+        goes = λ i p l. rw q at (y .c i p l);
+        closes = y .d;
+      })
+
+  pub holds-meets : Holds (2 ^ m - 1) (2 ^ m - 1) first hs vs → Meets m first hs vs
+  unfolding base start
+  holds-meets y =
+      let q : 2 ^ m - 2 ≡ 2 ^ m - 1 - 1 = omega arith in
+      let e = 2 ^ m - 1 in
+      let n = holds-length e e first hs vs y in
+      let z = holds-ends e e first (length hs - 1) hs vs y (omega arith) in
+      record {
+        many = sym n;
+        a-falls = λ i l. holds-falls e e first hs vs i y (omega arith);
+        a-ends = z .0;
+        b = rw (room-inner e e first (getD hs 0 0) (getD hs 1 0) (holds-positive e e first hs vs 1 y (omega arith))) at (holds-room e first hs vs 0 y (omega arith));
+        c = λ i p l. rw q (later i p l);
+        d = z .1;
+      }
+    where
+      later : (i : ℕ) → 0 < i → suc i < length hs → getD vs i 0 ≤ fewer (2 ^ m - 1 - 1) (getD hs i 0) 1 (suc (getD hs i 0 - getD hs (suc i) 0))
+      later zero p l = absurd (omega arith)
+      later (suc i) p l =
+          let e = 2 ^ m - 1 in
+          rw (room-inner e (e - 1) 1 (getD hs (suc i) 0) (getD hs (suc (suc i)) 0) (holds-positive e e first hs vs (suc (suc i)) y l)) at (holds-room e first hs vs (suc i) y (omega arith))

@@ -1,5 +1,5 @@
 -- The granted list: it meets the conditions where it fits, and no list that meets them has a lower count anywhere.
-use Prim.Native.Nat.{ℕ, zero, suc, _-_, _^_, _≤_}
+use Prim.Native.Nat.{ℕ, zero, suc, _-_, _^_, _≤_, _<_}
 use mathlib.Core.Path.{_≡_, refl, ap, _∙_}
 use mathlib.Core.List.{List, [], _∷_}
 use native.Mathlib.Omega.{arith}
@@ -12,7 +12,7 @@ use Rattle.code.specs.Layout.{room, Meets, counts, grant}
 use Rattle.code.specs.Lists.{Rises}
 use Rattle.code.proofs.Tests.{least-low, least-le, least-passes}
 use Rattle.code.proofs.Count.{fewer-grows}
-use Rattle.code.proofs.Conditions.{Holds, Layout}
+use Rattle.code.proofs.Conditions.{Holds, Layout, meets-holds, holds-meets}
 
 -- a lower next count leaves more room
 room-grows : (e b first h c h′ : ℕ) → c ≤ h′ → (c ≡ 0 → h′ ≡ 0) → room e b first h h′ ≤ room e b first h c
@@ -61,17 +61,28 @@ unfolding counts
 counts-length fuel e b first [] = refl
 counts-length fuel e b first (v ∷ vs) = ap suc (counts-length fuel e (e - 1) 1 vs)
 
--- Any list that meets the conditions is count for count at least as large as the granted one; so where that does not fit, none does.
-pub grant-least : (g m first : ℕ) (hs vs : List ℕ) → Holds (2 ^ m - 1) (2 ^ m - 1) first hs vs → Rises (grant g m first vs) hs × (getD (grant g m first vs) 0 0 ≤ getD hs 0 0)
+-- The granted list is count for count at most every list that meets the conditions; so where it does not fit, none does.
+pub grant-least : (g m first : ℕ) (hs vs : List ℕ) → 2 ≤ length vs → Meets m first hs vs → Rises (grant g m first vs) hs × (getD (grant g m first vs) 0 0 ≤ getD hs 0 0)
 unfolding grant
-grant-least g m first hs vs me =
-    let r = counts-least g (2 ^ m - 1) (2 ^ m - 1) first hs vs me in
-    (r, rises-head (counts g (2 ^ m - 1) (2 ^ m - 1) first vs) hs r)
-
--- Where the granted list fits it is a layout, with a count for each range.
-pub grant-fits : (g m first : ℕ) (vs : List ℕ) → 2 ≤ m → first ≤ 1 → 2 ≤ length vs → getD (grant g m first vs) 0 0 ≤ g → (length (grant g m first vs) ≡ length vs) × Layout (2 ^ m - 1) first (grant g m first vs) vs
-unfolding grant
-grant-fits g m first vs m2 f t2 h =
+grant-least g m first hs vs t2 y =
     let e = 2 ^ m - 1 in
-    let l = counts-length g e e first vs in
-    (l, record { wide = omega (arith, pow-mono m2); form = f; two = omega arith; holds = counts-hold g e e first vs h })
+    let r = counts-least g e e first hs vs (meets-holds m first hs vs t2 y) in
+    (r, rises-head (counts g e e first vs) hs r)
+
+pub grant-refused : (g m first : ℕ) (hs vs : List ℕ) → 2 ≤ length vs → g < getD (grant g m first vs) 0 0 → Meets m first hs vs → g < getD hs 0 0
+grant-refused g m first hs vs t2 l y = omega (arith, grant-least g m first hs vs t2 y .1)
+
+pub grant-length : (g m first : ℕ) (vs : List ℕ) → length (grant g m first vs) ≡ length vs
+unfolding grant
+grant-length g m first vs = counts-length g (2 ^ m - 1) (2 ^ m - 1) first vs
+
+-- Where the granted list fits it meets the conditions, and is a layout.
+module _ (g m first : ℕ) (vs : List ℕ) (t2 : 2 ≤ length vs) (fits : getD (grant g m first vs) 0 0 ≤ g) where
+  pub grant-meets : Meets m first (grant g m first vs) vs
+  unfolding grant
+  grant-meets = holds-meets m first (counts g (2 ^ m - 1) (2 ^ m - 1) first vs) vs t2 (counts-hold g (2 ^ m - 1) (2 ^ m - 1) first vs fits)
+
+  pub grant-fits : 2 ≤ m → first ≤ 1 → Layout (2 ^ m - 1) first (grant g m first vs) vs
+  grant-fits m2 f =
+      let q = grant-length g m first vs in
+      record { wide = omega (arith, pow-mono m2); form = f; two = omega arith; holds = meets-holds m first (grant g m first vs) vs t2 grant-meets }
