@@ -192,7 +192,7 @@ unfolding turned ones
 turned-ones o before after n g = rw n (sum-difference (wit o before) (wit o after) (8 * length before) g)
 
 -- the blank buffer is that of blank groups
-none-at : (n i : ℕ) → _≡_ {A = ℕ} (getD (replicate n 0) i 0) 0
+pub none-at : (n i : ℕ) → _≡_ {A = ℕ} (getD (replicate n 0) i 0) 0
 none-at zero i = refl
 none-at (suc n) zero = refl
 none-at (suc n) (suc i) = none-at n i

@@ -59,6 +59,14 @@ past-is e b first (k ∷ hs) (v ∷ vs) (suc n) z m h (inl q) = absurd (omega ar
 past-is e b first (k ∷ hs) (v ∷ vs) (suc n) z m h (inr q) =
     rw (lt-leb (getD hs 0 0) z (omega (arith, head-most e (e - 1) 1 hs vs n (m .2)))) (ap suc (past-is e (e - 1) 1 hs vs n z (m .2) h (inr q)))
 
+pub past-below : (h : ℕ) (hs : List ℕ) (z : ℕ) → past (h ∷ hs) z < suc (length hs)
+unfolding past
+past-below h [] z = rw (le-leb 0 z (omega arith)) (omega arith)
+past-below h (k ∷ hs) z = elim (le-or-lt k z) [
+  | inl l ↦ rw (le-leb k z l) (omega arith)
+  | inr g ↦ rw (lt-leb k z g) (omega (arith, past-below k hs z))
+]
+
 -- which groups generation n + 1 may be written on
 abbrev pub Ready : List ℕ → ℕ → List ℕ → Type 0
 Ready hs zero gs = written gs ≡ 0
@@ -74,12 +82,12 @@ reads-which true j x i y h = cc
 reads-which false j x i y h = cc
 
 module _ (e first : ℕ) (hs vs : List ℕ) where
-  read-is : (gs p : List ℕ) (n x : ℕ) → past hs (zeros gs) ≡ n → carriers e n gs ≡ p → start first n ≤ written p → length p ≡ getD hs n 0 →
+  pub read-is : (gs p : List ℕ) (n x : ℕ) → past hs (zeros gs) ≡ n → carriers e n gs ≡ p → start first n ≤ written p → length p ≡ getD hs n 0 →
       told e (base e n) (start first n) (getD hs (suc n) 0) p ≡ x → x < getD vs n 0 → read e first hs vs gs ≡ reads (suc n) x
   unfolding read
   read-is gs p n x a c w l t h = rw (a, c, t, le-leb (start first n) (written p) w, eq-eqb (length p) (getD hs n 0) l, lt-ltb x (getD vs n 0) h)
 
-  read-past : (gs : List ℕ) (i y : ℕ) → read e first hs vs gs ≡ reads i y → i ≡ suc (past hs (zeros gs))
+  pub read-past : (gs : List ℕ) (i y : ℕ) → read e first hs vs gs ≡ reads i y → i ≡ suc (past hs (zeros gs))
   unfolding read
   read-past gs i y r =
       let n = past hs (zeros gs) in

@@ -11,3 +11,4 @@ pub mod Wits
 pub mod Numbers
 pub mod Cells
 pub mod Worked
+pub mod Bytes
