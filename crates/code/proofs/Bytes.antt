@@ -23,7 +23,11 @@ use Rattle.code.proofs.Run as groupwise
 unfoldable pub triedCells : ℕ → ℕ → ℕ → List ℕ → List ℕ → ℕ → List ℕ → List ℕ
 triedCells o m first hs vs x bs = kept bs (writeCells o m first hs vs x bs)
 
-storing-accepted : (o m : ℕ) (w : Writing) → accepted (storing o m w) ≡ accepted w
+-- the wits that a try of x turns
+abbrev pub turns : ℕ → ℕ → ℕ → List ℕ → List ℕ → ℕ → List ℕ → ℕ
+turns o m first hs vs x bs = turned o bs (triedCells o m first hs vs x bs)
+
+pub storing-accepted : (o m : ℕ) (w : Writing) → accepted (storing o m w) ≡ accepted w
 unfolding storing accepted
 storing-accepted o m refused = refl
 storing-accepted o m (wrote i gs) = refl
@@ -86,8 +90,8 @@ module _ (o m first : ℕ) (hs vs : List ℕ) where
         let b = buffer gs′ (a .long ∙ l) (a .small) in
         let told = sound-told o m h bs (t .0) B pos in
         let up : (w : ℕ) → wit o bs w ≤ wit o (stored o m gs′) w = λ w.
-            let q : wit o bs w ≡ _ = ap (λ (z : List ℕ). wit o z w) (sym told) ∙ stored-wit o m gs pos w in
-            rw (q, stored-wit o m gs′ pos w) (grows-wit m gs gs′ w pos (a .grows)) in
+        let q : wit o bs w ≡ _ = ap (λ (z : List ℕ). wit o z w) (sym told) ∙ stored-wit o m gs pos w in
+        rw (q, stored-wit o m gs′ pos w) (grows-wit m gs gs′ w pos (a .grows)) in
         let n : length (stored o m gs′) ≡ length bs = stored-length o m gs′ pos ∙ rw (a .long, l) (sym (sound-length o m h bs (t .0))) in
         rw (t .3) (record {
           right = b .right;
@@ -110,16 +114,12 @@ module _ (o m first : ℕ) (hs vs : List ℕ) where
     unfolding triedCells
     tried-is x bs B = left-is x bs (writeCells o m first hs vs x bs) B refl
 
-    -- the wits that a try of x turns
-    pub turns : ℕ → List ℕ → ℕ
-    turns x bs = turned o bs (triedCells o m first hs vs x bs)
-
-    turned-is : (bs xs : List ℕ) → Bytes bs → total turns (triedCells o m first hs vs) bs xs + ones o bs ≡ ones o (run (triedCells o m first hs vs) bs xs)
-    unfolding total run turns
+    turned-is : (bs xs : List ℕ) → Bytes bs → total (turns o m first hs vs) (triedCells o m first hs vs) bs xs + ones o bs ≡ ones o (run (triedCells o m first hs vs) bs xs)
+    unfolding total run
     turned-is bs [] B = omega arith
     turned-is bs (x ∷ xs) B = let q = tried-is x bs B in omega (arith, q .1, turned-is (triedCells o m first hs vs x bs) xs (q .0))
 
-    pub turned-blank : (xs : List ℕ) → total turns (triedCells o m first hs vs) (replicate (size m (getD hs 0 0)) 0) xs ≡ ones o (run (triedCells o m first hs vs) (replicate (size m (getD hs 0 0)) 0) xs)
+    pub turned-blank : (xs : List ℕ) → total (turns o m first hs vs) (triedCells o m first hs vs) (replicate (size m (getD hs 0 0)) 0) xs ≡ ones o (run (triedCells o m first hs vs) (replicate (size m (getD hs 0 0)) 0) xs)
     turned-blank xs = let n = size m (getD hs 0 0) in omega (arith, turned-is (replicate n 0) xs (λ i l. omega (arith, none-at n i)), ones-blank o n)
 
     -- The run of the buffer is that of its groups.

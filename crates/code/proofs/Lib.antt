@@ -12,3 +12,5 @@ pub mod Numbers
 pub mod Cells
 pub mod Worked
 pub mod Bytes
+pub mod Calls
+pub mod Demand

@@ -11,12 +11,13 @@ use borrow.Author.Tests.{le-leb, lt-leb, lt-ltb, le-ltb}
 use Rattle.code.specs.Count.{choose, fewer}
 use Rattle.code.specs.Deal.{written, rank, digits, number}
 use Rattle.code.specs.Field.{zeros, base, start, carriers, told, reads, read, after, refused, wrote, writeAt, writeOn, write}
-use Rattle.code.specs.Run.{accepted, kept, run, opening, next, InRange}
+use Rattle.code.specs.Run.{accepted, kept, run, total, opening, next, InRange}
 use Rattle.code.specs.Lists.{Below}
 use Rattle.code.proofs.Tests.{le-or-lt}
 use Rattle.code.proofs.Count.{fewer-grows}
-use Rattle.code.proofs.Conditions.{Layout, holds-length, holds-falls}
-use Rattle.code.proofs.Field.{Ready, After, after-is, write-blank, write-read}
+use Rattle.code.proofs.Conditions.{Layout, holds-length, holds-falls, head-most}
+use Rattle.code.proofs.Groups.{zeros-written}
+use Rattle.code.proofs.Field.{read-is, past-is, Ready, After, after-is, write-blank, write-read}
 
 -- The pattern that writes nothing has number 0, and where it is allowed no other has.
 blank-parts : (b : ℕ) (p : List ℕ) → written p ≡ 0 → (rank p ≡ 0) × (digits b p ≡ 0)
@@ -58,6 +59,18 @@ unfolding next
 next-up zero t zero x h = absurd (omega arith)
 next-up zero t (suc c) x h = refl
 next-up (suc first) t c x h = refl
+
+-- tries that leave and count the same, number for number
+module _ (f g : ℕ → List ℕ → List ℕ) (same : (x : ℕ) (cells : List ℕ) → f x cells ≡ g x cells) where
+  pub run-same : (cells xs : List ℕ) → run f cells xs ≡ run g cells xs
+  unfolding run
+  run-same cells [] = refl
+  run-same cells (x ∷ xs) = rw (same x cells) (run-same (g x cells) xs)
+
+  pub total-same : (a b : ℕ → List ℕ → ℕ) → ((x : ℕ) (cells : List ℕ) → a x cells ≡ b x cells) → (cells xs : List ℕ) → total a f cells xs ≡ total b g cells xs
+  unfolding total
+  total-same a b also cells [] = refl
+  total-same a b also cells (x ∷ xs) = rw (same x cells) (omega (arith, also x cells, total-same a b also (g x cells) xs))
 
 -- the generations used once each of a list is tried
 tally : ℕ → ℕ → ℕ → List ℕ → ℕ
@@ -141,6 +154,15 @@ module _ (e first : ℕ) (hs vs : List ℕ) where
   pub spent : (x c : ℕ) (gs : List ℕ) → Held c gs → length hs ≤ c → write e first hs vs x gs ≡ refused
   unfolding writeAt
   spent x c gs k h = stands-write x c gs (k .stands) ∙ rw (le-ltb c (length hs) h)
+
+-- blank cells read as generation 1, number 0, where it may write no place
+pub blank-reads : (e : ℕ) (hs vs gs : List ℕ) → Layout e 0 hs vs → length gs ≡ getD hs 0 0 → written gs ≡ 0 → 0 < getD vs 0 0 → read e 0 hs vs gs ≡ reads 1 0
+unfolding base start carriers
+blank-reads e hs vs gs y l z v =
+    let full : zeros gs ≡ getD hs 0 0 = omega (arith, zeros-written gs) in
+    read-is e 0 hs vs gs gs 0 0
+    (past-is e e 0 hs vs 0 (zeros gs) (y .holds) (omega (arith, head-most e e 0 hs vs 1 (y .holds))) (inl refl)) refl (omega arith) l
+    (told-inner e e 0 (getD hs 1 0) gs (omega (arith, holds-falls e e 0 hs vs 1 (y .holds) (y .two))) ∙ blank-number e 0 gs (omega arith)) v
 
 -- generation 1 leaves the cells blank exactly where the number is one of the opening zeros
 first-tells : (e first : ℕ) (hs vs : List ℕ) (x : ℕ) (gs gs′ : List ℕ) → Layout e first hs vs → After e first hs vs 0 x gs gs′ → number e first gs′ ≡ x
