@@ -8,12 +8,12 @@ use native.Mathlib.Nat.{le-refl}
 use lib.ListN.{length, getD, take, replicate, length-replicate}
 use lib.Dec.{leb}
 use Rattle.code.specs.Cells.{wit, sum, opened, size, sound, stored, ones, turned}
-use Rattle.code.specs.Field.{read, Reading, unread, reads, Writing, refused, wrote, write}
+use Rattle.code.specs.Field.{reads, Writing, refused, wrote, write}
 use Rattle.code.specs.Run.{accepted, kept, run, total, opening, InRange}
 use Rattle.code.specs.Calls.{readCells, storing, writeCells}
 use Rattle.code.specs.Lists.{Upto}
-use Rattle.code.proofs.Wits.{Bytes, wit-lt}
-use Rattle.code.proofs.Cells.{groups-length, groups-small, sound-told, sound-length, stored-wit, stored-bytes, stored-length, stored-opened, stored-sound, grows-wit, turned-ones, blank-wit, blank-stored, upto-all, none-at}
+use Rattle.code.proofs.Wits.{Bytes}
+use Rattle.code.proofs.Cells.{groups-length, sound-told, sound-length, stored-wit, stored-bytes, stored-length, stored-opened, stored-sound, grows-wit, turned-ones, blank-wit, blank-stored, upto-all, none-at}
 use Rattle.code.proofs.Conditions.{Layout}
 use Rattle.code.proofs.Field.{write-is}
 use Rattle.code.proofs.Run.{tried}

@@ -1,30 +1,23 @@
 -- The replies of layout, read and write, and demand 3 of them.
-use Prim.Native.Nat.{ℕ, zero, suc, _+_, _-_, _^_, _≤_, _<_}
-use mathlib.Core.Path.{_≡_, refl, sym, ap, _∙_}
-use mathlib.Core.Logic.{_⊎_, inl, inr}
-use mathlib.Core.Bool.{Bool, true, false, cond, not, _&&_}
+use Prim.Native.Nat.{ℕ, _-_, _^_, _≤_, _<_}
+use mathlib.Core.Path.{_≡_, refl, _∙_}
+use mathlib.Core.Logic.{inl, inr}
+use mathlib.Core.Bool.{Bool, true, false, cond, _&&_}
 use mathlib.Core.List.{List, [], _∷_}
 use native.Mathlib.Omega.{arith}
-use lib.ListN.{length, getD, take, replicate, length-replicate, getD-replicate, List·getD-eq-default}
+use lib.ListN.{length, getD, replicate, length-replicate, getD-replicate, List·getD-eq-default}
 use lib.Dec.{leb, ltb, eqb}
 use native.Mathlib.Decide.{ℕ-discrete}
-use borrow.Author.Tests.{le-leb, lt-leb, lt-ltb, le-ltb, leb-true, ltb-false, not-false, eq-eqb, ne-eqb}
-use Rattle.code.specs.Lists.{Below}
+use borrow.Author.Tests.{le-leb, lt-leb, lt-ltb, le-ltb, leb-true, not-false, eq-eqb, ne-eqb}
 use Rattle.code.specs.Deal.{written}
-use Rattle.code.specs.Layout.{grant}
-use Rattle.code.specs.Cells.{wit, opened, size, sound, ones, turned}
 use lib.Arith.{lt-of-le-ne}
-use Rattle.code.specs.Field.{zeros, past, Reading, unread, reads, read, Writing, refused, wrote, writeAt, writeOn, write}
-use Rattle.code.specs.Run.{accepted, kept, run, total, opening}
-use Rattle.code.specs.Calls.{readCells, storing, writeCells, refusal, answer, outside, misfit, granted, layoutRefusal, fieldRead, fieldWrite, unsound, unreadable, generation, holds, left, readRefusal, readReply, writeRefusal, madeAt, writeReply, writeLeaves}
+use Rattle.code.specs.Field.{zeros, past, Reading, unread, reads, read, refused, writeAt, writeOn, write}
+use Rattle.code.specs.Run.{accepted}
+use Rattle.code.specs.Calls.{refusal, outside, misfit, granted, layoutRefusal, unreadable, generation}
 use Rattle.code.proofs.Tests.{le-or-lt, both-true}
-use Rattle.code.proofs.Wits.{Bytes}
-use Rattle.code.proofs.Cells.{groups-length}
 use Rattle.code.proofs.Conditions.{Layout}
-use Rattle.code.proofs.Grant.{grant-fits, grant-length}
 use Rattle.code.proofs.Field.{read-past, past-below, write-blank, write-read}
-use Rattle.code.proofs.Run.{equal-range, blank-reads}
-use Rattle.code.proofs.Bytes.{Accepted, accepted-is, triedCells, tried-is, turned-blank, accepts-is}
+use Rattle.code.proofs.Run.{blank-reads}
 
 -- m, t, v and g within their bounds
 pub record Within (m t v g : ℕ) : Type 0 where

@@ -1,12 +1,12 @@
 -- Bytes and groups determine each other, for either order of bits.
 use mathlib.Core.Path.{_≡_, refl, sym, ap, _∙_}
 use mathlib.Core.Logic.{_⊎_, inl, inr}
-use mathlib.Core.Bool.{Bool, true, false, _&&_}
+use mathlib.Core.Bool.{true}
 use mathlib.Core.List.{List, [], _∷_}
 use Prim.Native.Nat.{ℕ, zero, suc, _+_, _*_, _-_, _^_, _/_, _%_, _≤_, _<_}
 use native.Mathlib.Omega.{arith}
 use native.Mathlib.Decide.{decLt}
-use native.Mathlib.Nat.{lt-of-not-le, le-refl, mul-suc, mul-le-mul-left, zero-add, div-add-mod, div-lt-iff-lt-mul, mul-comm, mod-lt, le-div-iff-mul-le, zero-div, mul-add-div, div-eq-of-lt, add-zero, mul-add-mod-self-left, mod-eq-of-lt}
+use native.Mathlib.Nat.{lt-of-not-le, le-refl, zero-add, div-add-mod, div-lt-iff-lt-mul, mul-comm, mod-lt, le-div-iff-mul-le, zero-div, mul-add-div, div-eq-of-lt, add-zero, mul-add-mod-self-left, mod-eq-of-lt}
 use lib.Dec.{eqb}
 use borrow.Author.Tests.{eq-eqb, eqb-true}
 use lib.Pow.{pow-pos}
@@ -17,7 +17,7 @@ use Rattle.code.specs.Cells.{place, wit, value, listed, sum, group, grou
 use Rattle.code.proofs.Tests.{both-true}
 use Rattle.code.proofs.Bits.{bit, bit-full}
 use Rattle.code.proofs.Wits.{Bytes, wit-lt, wit-past, wit-ext, place-lt, place-place}
-use Rattle.code.proofs.Numbers.{value-lt, value-byte, value-bit, value-is, value-zero, value-none, listed-length, listed-at, sum-same, sum-difference}
+use Rattle.code.proofs.Numbers.{value-lt, value-byte, value-bit, value-is, value-zero, value-none, listed-length, listed-at, sum-difference}
 use Rattle.code.proofs.Groups.{Grows}
 
 -- n bytes of the wits f

@@ -12,16 +12,16 @@ use borrow.Author.Tests.{ltb-false, lt-ltb, le-ltb, eqb-true}
 use Rattle.code.specs.Lists.{Below, Rises}
 use Rattle.code.specs.Layout.{Meets, grant}
 use Rattle.code.specs.Cells.{wit, opened, size, sound, ones, turned}
-use Rattle.code.specs.Field.{Reading, unread, reads, read, Writing, refused, wrote, write}
+use Rattle.code.specs.Field.{unread, reads, read, Writing, refused, wrote, write}
 use Rattle.code.specs.Run.{accepted, kept, run, total, opening}
-use Rattle.code.specs.Calls.{readCells, storing, writeCells, refusal, answer, outside, misfit, granted, layoutRefusal, layoutReply, fieldRead, fieldWrite, unsound, unreadable, generation, holds, left, readRefusal, readReply, writeRefusal, madeAt, writeReply, writeLeaves}
+use Rattle.code.specs.Calls.{readCells, storing, writeCells, refusal, answer, outside, misfit, granted, layoutRefusal, fieldRead, fieldWrite, unsound, unreadable, generation, holds, left, readRefusal, readReply, writeRefusal, madeAt, writeReply, writeLeaves}
 use Rattle.code.proofs.Wits.{Bytes}
 use Rattle.code.proofs.Cells.{groups-length, turned-ones}
 use Rattle.code.proofs.Conditions.{Layout}
 use Rattle.code.proofs.Grant.{grant-fits, grant-length, grant-meets, grant-least, grant-refused}
 use Rattle.code.proofs.Run.{equal-range, run-same, total-same}
 use Rattle.code.proofs.Tests.{le-or-lt}
-use Rattle.code.proofs.Bytes.{storing-accepted, Accepted, accepted-is, triedCells, turns, tried-is, turned-blank, accepts-is}
+use Rattle.code.proofs.Bytes.{storing-accepted, accepted-is, triedCells, turns, tried-is, turned-blank, accepts-is}
 use Rattle.code.proofs.Calls.{Within, outside-within, layout-none, acceptance}
 
 -- the blank cells of a field

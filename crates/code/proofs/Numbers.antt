@@ -1,18 +1,16 @@
 -- The number that wits make, lists of such numbers, and sums of wits. The wits are any function, so none of this looks at bytes.
 use mathlib.Core.Path.{_≡_, refl, sym, ap, _∙_}
 use mathlib.Core.Logic.{_≢_}
-use Prim.Native.Nat.{ℕ, zero, suc, _+_, _*_, _-_, _^_, _/_, _%_, _≤_, _<_, max}
+use Prim.Native.Nat.{ℕ, zero, suc, _+_, _-_, _^_, _/_, _≤_, _<_}
 use native.Mathlib.Omega.{arith}
-use native.Mathlib.Numerals.{add-one}
 use native.Mathlib.Decide.{ℕ-discrete}
-use native.Mathlib.Nat.{sub-zero, sub-self, div-one, div-eq-of-lt, pow-succ', pow-suc, div-div-eq-div-mul, suc-add, add-suc, add-zero, zero-add, lt-irrefl, lt-of-lt-of-le, le-refl, le-trans}
+use native.Mathlib.Nat.{pow-succ', pow-suc, suc-add, add-suc, add-zero, zero-add, lt-of-lt-of-le}
 use lib.Pow.{pow-mono}
 use lib.Arith.{lt-of-le-ne}
-use lib.Count as popcount
 use lib.ListN.{length, getD, set, length-set}
 use lib.Seq.{getD-set-same, getD-set-other, ext-getD}
 use Rattle.code.specs.Cells.{value, listed, sum}
-use Rattle.code.proofs.Bits.{bit, bit-suc, bits-ext, or-snoc}
+use Rattle.code.proofs.Bits.{bit, bit-suc, bits-ext}
 
 pub value-same : (f g : ℕ → ℕ) (w n : ℕ) → ((i : ℕ) → i < n → f (w + i) ≡ g (w + i)) → value f w n ≡ value g w n
 unfolding value

@@ -4,17 +4,11 @@ use mathlib.Core.Logic.{_≢_}
 use mathlib.Core.List.{List}
 use Prim.Native.Nat.{ℕ, zero, suc, _+_, _*_, _^_, _/_, _%_, _≤_, _<_}
 use native.Mathlib.Omega.{arith}
-use native.Mathlib.Decide.{ℕ-discrete}
-use native.Mathlib.Nat.{zero-div, one-mul, mod-eq-of-lt, mul-le-mul, mul-le-mul-left, mul-suc, le-trans}
-use native.Mathlib.Numerals.{add-one}
-use lib.Pow.{shl-exact}
-use mir.Syntax.{w64}
-use mir.Val.{Fits}
-use lib.Bits.{bitOr}
-use lib.ListN.{length, getD, set, List·getD-eq-default}
-use lib.Seq.{getD-set-same, getD-set-other, ext-getD}
+use native.Mathlib.Nat.{zero-div, mod-eq-of-lt}
+use lib.ListN.{length, getD, List·getD-eq-default}
+use lib.Seq.{ext-getD}
 use Rattle.code.specs.Cells.{place, wit}
-use Rattle.code.proofs.Bits.{bit-lt, bits-ext, set-same, set-other}
+use Rattle.code.proofs.Bits.{bit-lt, bits-ext}
 
 pub place-lt : (o w : ℕ) → place o w < 8
 unfolding place

@@ -1,5 +1,5 @@
 -- The values that document 01 marks P, computed from the definitions, and the rank of 003's example.
-use Prim.Native.Nat.{ℕ, _≤_, _<_}
+use Prim.Native.Nat.{ℕ}
 use mathlib.Core.Path.{_≡_, refl}
 use mathlib.Core.List.{List, [], _∷_}
 use Rattle.code.specs.Count.{choose, fewer, least}

@@ -3,10 +3,10 @@ use Prim.Native.Nat.{ℕ, zero, suc, _-_, _^_}
 use mathlib.Core.Bool.{Bool, true, false, cond, not, _&&_}
 use mathlib.Core.List.{List, [], _∷_, _++_}
 use lib.Dec.{leb, ltb, eqb}
-use lib.ListN.{length, getD, take, replicate}
+use lib.ListN.{getD, take, replicate}
 use Rattle.code.specs.Layout.{grant}
 use Rattle.code.specs.Deal.{written}
-use Rattle.code.specs.Cells.{opened, size, sound, stored, turned}
+use Rattle.code.specs.Cells.{opened, sound, stored, turned}
 use Rattle.code.specs.Field.{Reading, unread, reads, read, Writing, refused, wrote, write}
 use Rattle.code.specs.Run.{kept}
 

@@ -1,13 +1,11 @@
 -- Laws of binomials and of the sums of patterns. Assumes nothing.
-use mathlib.Core.Path.{_≡_, refl, ap, sym, _∙_}
-use mathlib.Core.Logic.{_⊎_, inl, inr}
+use mathlib.Core.Path.{_≡_, refl, ap, _∙_}
+use mathlib.Core.Logic.{inl, inr}
 use Prim.Native.Nat.{ℕ, zero, suc, _+_, _-_, _*_, _/_, _^_, _≤_, _<_}
-use native.Mathlib.Nat.{pow-zero, pow-suc, mul-le-mul, mul-le-mul-left, mul-le-mul-right, le-of-mul-le-mul-right, pow-le-pow-left, le-mul-of-pos-right, div-eq-of-eq-mul-left, zero-lt-suc, zero-add, suc-add, mul-sub, mul-zero, mul-comm, lt-of-not-le, min-eq-left}
+use native.Mathlib.Nat.{pow-zero, pow-suc, mul-le-mul, mul-le-mul-left, mul-le-mul-right, le-of-mul-le-mul-right, le-mul-of-pos-right, div-eq-of-eq-mul-left, zero-lt-suc, mul-sub, mul-zero, mul-comm, lt-of-not-le, min-eq-left}
 use native.Mathlib.Decide.{decLe}
 use native.Mathlib.Numerals.{add-one}
 use native.Mathlib.Omega.{arith}
-use lib.Dec.{leb}
-use borrow.Author.Tests.{le-leb, lt-leb}
 use Rattle.code.specs.Count.{choose, fewer}
 use Rattle.code.proofs.Count.{choose-up, fewer-none, fewer-step, fewer-grows}
 use Rattle.code.proofs.Tests.{le-or-lt}

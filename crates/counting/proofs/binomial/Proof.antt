@@ -1,5 +1,4 @@
 -- `counting::binomial` meets its contract. Assumes nothing.
-use mathlib.Core.Path.{_≡_, _∙_}
 use native.Mathlib.Omega.{arith}
 use borrow.Author.Needs.{needs}
 use Rattle.counting.proofs.Laws.{choose-above, symmetry}

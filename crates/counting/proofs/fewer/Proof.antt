@@ -1,8 +1,6 @@
 -- `counting::fewer` meets its contract. Assumes nothing.
-use mathlib.Core.Path.{_≡_, refl}
-use Prim.Native.Nat.{_+_, _-_, _*_, _/_, _^_}
+use Prim.Native.Nat.{_-_}
 use native.Mathlib.Omega.{arith}
-use native.Mathlib.Nat.{mul-le-mul}
 use borrow.Author.Needs.{needs}
 use Rattle.code.proofs.Count.{fewer-none}
 use Rattle.counting.proofs.Laws.{Sum, sum-begin, sum-over, sum-turn, sum-end}

@@ -1,5 +1,4 @@
 -- `counting::inner` meets its contract. Assumes nothing.
-use mathlib.Core.Path.{_≡_, refl, _∙_}
 use native.Mathlib.Omega.{arith}
 use borrow.Author.Needs.{needs}
 use Rattle.counting.proofs.Laws.{inner-room, inner-is, inner-small}

@@ -1,5 +1,4 @@
 -- `counting::lower` meets its contract. Assumes nothing.
-use mathlib.Core.Path.{_≡_, refl, _∙_}
 use native.Mathlib.Omega.{arith}
 use borrow.Author.Needs.{needs}
 use Rattle.counting.proofs.Laws.{lower-room, lower-is, lower-small}

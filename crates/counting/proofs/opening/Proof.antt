@@ -1,9 +1,7 @@
 -- `counting::opening` meets its contract. Assumes nothing.
-use mathlib.Core.Path.{_≡_, refl, _∙_, sym}
-use Prim.Native.Nat.{ℕ, _*_, _^_, _≤_}
+use mathlib.Core.Path.{_≡_}
 use native.Mathlib.Nat.{pow-zero, mul-le-mul}
 use native.Mathlib.Omega.{arith}
-use borrow.Author.Needs.{needs}
 use Rattle.code.specs.Count.{choose}
 use Rattle.counting.proofs.Laws.{choose-one, power-one}
 use Rattle.counting.proofs.opening.Statement.{statement}

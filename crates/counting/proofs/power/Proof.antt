@@ -1,6 +1,6 @@
 -- `counting::power` meets its contract. Assumes nothing.
-use mathlib.Core.Path.{_≡_, refl, sym}
-use Prim.Native.Nat.{_≤_, _<_, _+_, _-_, _*_, _^_}
+use mathlib.Core.Path.{_≡_, sym}
+use Prim.Native.Nat.{_≤_, _<_, _+_, _-_, _^_}
 use native.Mathlib.Nat.{pow-zero, le-antisymm, mul-le-mul, pow-le-pow-right}
 use native.Mathlib.Omega.{arith}
 use borrow.Author.Needs.{needs}
