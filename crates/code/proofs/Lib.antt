@@ -1,3 +1,4 @@
+pub mod Agreed
 pub mod Tests
 pub mod Count
 pub mod Deal
@@ -10,7 +11,8 @@ pub mod Bits
 pub mod Wits
 pub mod Numbers
 pub mod Cells
-pub mod Worked
 pub mod Bytes
 pub mod Calls
 pub mod Demand
+pub mod Rows
+pub mod Published
