@@ -16,3 +16,4 @@ pub mod Calls
 pub mod Demand
 pub mod Rows
 pub mod Published
+pub mod Sample

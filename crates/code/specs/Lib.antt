@@ -6,3 +6,4 @@ pub mod Cells
 pub mod Field
 pub mod Run
 pub mod Calls
+pub mod Dump
