@@ -14,7 +14,7 @@ use lib.Arith.{lt-of-le-ne}
 use Rattle.code.specs.Field.{zeros, past, Reading, unread, reads, read, refused, writeAt, writeOn, write}
 use Rattle.code.specs.Run.{accepted}
 use Rattle.code.specs.Calls.{refusal, outside, misfit, granted, layoutRefusal, unreadable, generation}
-use Rattle.code.proofs.Tests.{le-or-lt, both-true}
+use Rattle.code.proofs.Tests.{le-or-lt, both-true, and-false}
 use Rattle.code.proofs.Conditions.{Layout}
 use Rattle.code.proofs.Field.{read-past, past-below, write-blank, write-read}
 use Rattle.code.proofs.Run.{blank-reads}
@@ -57,10 +57,6 @@ layout-none m t v g ok = none-of-two (outside m t v g) (misfit g (granted m t v 
 -- Which writes are accepted on groups, where all ranges are v: the last three tests.
 abbrev last-tests : ℕ → ℕ → ℕ → Reading → ℕ
 last-tests t v x r = refusal ((6, leb v x) ∷ (4, unreadable r) ∷ (5, eqb (generation r) t) ∷ [])
-
-and-false : (a : Bool) → (a && false) ≡ false
-and-false true = refl
-and-false false = refl
 
 module _ (e : ℕ) (hs : List ℕ) (t v : ℕ) (y : Layout e 0 hs (replicate t v)) (n : length hs ≡ t) (v2 : 0 < v) where
   at-most : (i : ℕ) → getD (replicate t v) i 0 ≤ v

@@ -22,6 +22,7 @@ use Rattle.code.proofs.Grant.{grant-fits, grant-length, grant-meets, gr
 use Rattle.code.proofs.Run.{equal-range, run-same, total-same}
 use Rattle.code.proofs.Tests.{le-or-lt}
 use Rattle.code.proofs.Bytes.{storing-accepted, accepted-is, triedCells, turns, tried-is, turned-blank, accepts-is}
+use Rattle.code.proofs.Replies.{write-tests}
 use Rattle.code.proofs.Calls.{Within, outside-within, layout-none, acceptance}
 
 -- the blank cells of a field
@@ -44,15 +45,10 @@ module _ (m t v : ℕ) (ok : layoutRefusal m t v 256 ≡ 0) where
   unfolding granted
   is-layout = grant-fits 256 m 0 (replicate t v) (omega (arith, within .t-low, length-replicate t v)) fits (within .m-low) (omega arith)
 
-  -- the refusals of a write, test by test, from the third on
-  write-tests : (x : ℕ) (bs : List ℕ) → writeRefusal m t v x bs ≡ refusal ((3, unsound m t v bs) ∷ (6, leb v x) ∷ (4, unreadable (fieldRead m t v bs)) ∷ (5, eqb (generation (fieldRead m t v bs)) t) ∷ [])
-  unfolding writeRefusal refusal
-  write-tests x bs = let n = layout-none m t v 256 ok in rw (n .0, n .1)
-
   -- A write is refused with no number exactly where the rules make it.
   pub refused-not : (x : ℕ) (bs : List ℕ) → eqb (writeRefusal m t v x bs) 0 ≡ accepted (fieldWrite m t v x bs)
   unfolding refusal unsound fieldRead fieldWrite readCells writeCells accepted
-  refused-not x bs = rw (write-tests x bs) (go (sound 0 m (getD hs 0 0) bs))
+  refused-not x bs = rw (write-tests m t v x bs ok) (go (sound 0 m (getD hs 0 0) bs))
     where
       hs : List ℕ
       hs = granted m t v 256

@@ -7,15 +7,15 @@ use mathlib.Core.List.{List, [], _∷_}
 use native.Mathlib.Omega.{arith}
 use lib.ListN.{length, getD}
 use lib.Dec.{leb, ltb, eqb}
-use borrow.Author.Tests.{le-leb, lt-leb, lt-ltb, ltb-true, eq-eqb, ne-eqb}
+use borrow.Author.Tests.{le-leb, lt-leb, lt-ltb, le-ltb, ltb-true, eq-eqb, ne-eqb}
 use Rattle.code.specs.Deal.{written, deal, plainly}
 use Rattle.code.specs.Layout.{room}
-use Rattle.code.specs.Field.{zeros, past, base, start, carriers, told, pattern, Reading, unread, reads, read, erase, cleared, lay, after, refused, wrote, writeAt, writeOn, write}
+use Rattle.code.specs.Field.{zeros, unerased, past, base, start, carriers, told, pattern, Reading, unread, reads, read, erase, cleared, lay, after, refused, wrote, writeAt, writeOn, write}
 use Rattle.code.specs.Lists.{Upto}
-use Rattle.code.proofs.Tests.{le-or-lt}
+use Rattle.code.proofs.Tests.{le-or-lt, and-false}
 use Rattle.code.proofs.Deal.{deal-is, plainly-is, plain-written}
 use Rattle.code.proofs.Conditions.{Holds, Layout, holds-falls, holds-room, head-most}
-use Rattle.code.proofs.Groups.{Grows, zeros-written, upto-grows, erase-wiped, erase-zeros, erase-length, lay-is, lay-blank, lay-grows, erase-lay-grows}
+use Rattle.code.proofs.Groups.{Grows, zeros-written, unerased-zeros, upto-grows, erase-wiped, erase-zeros, erase-length, lay-is, lay-blank, lay-grows, erase-lay-grows}
 
 base-bounds : (e first n : ℕ) → 2 ≤ e → first ≤ 1 → (0 < base e n) × (e - 1 ≤ base e n) × (start first n ≤ 1)
 unfolding base start
@@ -67,6 +67,18 @@ past-below h (k ∷ hs) z = elim (le-or-lt k z) [
   | inr g ↦ rw (lt-leb k z g) (omega (arith, past-below k hs z))
 ]
 
+pub past-above : (hs : List ℕ) (z n : ℕ) → past hs z ≡ suc n → z < getD hs (suc n) 0
+unfolding past
+past-above [] z n q = absurd (omega arith)
+past-above (h ∷ hs) z n q = elim (le-or-lt (getD hs 0 0) z) [
+  | inl l ↦ absurd (omega (arith, rw (le-leb (getD hs 0 0) z l) at q))
+  | inr g ↦ go n (past-above hs z) (omega (arith, rw (lt-leb (getD hs 0 0) z g) at q)) g
+]
+  where
+    go : (n : ℕ) → ((k : ℕ) → past hs z ≡ suc k → z < getD hs (suc k) 0) → past hs z ≡ n → z < getD hs 0 0 → z < getD hs n 0
+    go zero ih q g = g
+    go (suc n) ih q g = ih n q
+
 -- which groups generation n + 1 may be written on
 abbrev pub Ready : List ℕ → ℕ → List ℕ → Type 0
 Ready hs zero gs = written gs ≡ 0
@@ -86,6 +98,24 @@ module _ (e first : ℕ) (hs vs : List ℕ) where
       told e (base e n) (start first n) (getD hs (suc n) 0) p ≡ x → x < getD vs n 0 → read e first hs vs gs ≡ reads (suc n) x
   unfolding read
   read-is gs p n x a c w l t h = rw (a, c, t, le-leb (start first n) (written p) w, eq-eqb (length p) (getD hs n 0) l, lt-ltb x (getD vs n 0) h)
+
+  -- where a reading fails: another count of places, or a number beyond the range
+  pub read-miscounted : (gs : List ℕ) (n : ℕ) → past hs (zeros gs) ≡ n → (length (carriers e n gs) ≡ getD hs n 0 → ⊥) → read e first hs vs gs ≡ unread
+  unfolding read
+  read-miscounted gs n a d = rw (a, ne-eqb (length (carriers e n gs)) (getD hs n 0) d, and-false (leb (start first n) (written (carriers e n gs))))
+
+  pub read-beyond : (gs : List ℕ) (n x : ℕ) → past hs (zeros gs) ≡ n → told e (base e n) (start first n) (getD hs (suc n) 0) (carriers e n gs) ≡ x → getD vs n 0 ≤ x → read e first hs vs gs ≡ unread
+  unfolding read
+  read-beyond gs n x a t l = rw (a, t, le-ltb x (getD vs n 0) l, and-false (eqb (length (carriers e n gs)) (getD hs n 0)), and-false (leb (start first n) (written (carriers e n gs))))
+
+  -- and where it does not: from generation 2 on the zero count leaves a written place
+  pub read-told : (gs : List ℕ) (n x : ℕ) → 0 < e → first ≤ written gs → past hs (zeros gs) ≡ n → length (carriers e n gs) ≡ getD hs n 0 →
+      told e (base e n) (start first n) (getD hs (suc n) 0) (carriers e n gs) ≡ x → x < getD vs n 0 → read e first hs vs gs ≡ reads (suc n) x
+  unfolding start carriers
+  read-told gs zero x pos f a l t h = read-is gs gs 0 x a refl f l t h
+  read-told gs (suc n) x pos f a l t h =
+      let z = past-above hs (zeros gs) n a in
+      read-is gs (unerased e gs) (suc n) x a refl (omega (arith, zeros-written (unerased e gs), unerased-zeros e gs pos)) l t h
 
   pub read-past : (gs : List ℕ) (i y : ℕ) → read e first hs vs gs ≡ reads i y → i ≡ suc (past hs (zeros gs))
   unfolding read

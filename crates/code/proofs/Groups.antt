@@ -4,6 +4,7 @@ use mathlib.Core.Path.{_≡_, refl, ap, _∙_}
 use mathlib.Core.Logic.{_⊎_, inl, inr}
 use mathlib.Core.List.{List, [], _∷_}
 use native.Mathlib.Omega.{arith}
+use native.Mathlib.Decide.{ℕ-discrete}
 use lib.ListN.{length}
 use borrow.Author.Tests.{eq-eqb, ne-eqb}
 use Rattle.code.specs.Deal.{written}
@@ -112,3 +113,13 @@ erase-lay-grows e spare (suc x ∷ gs) p pos = rw (lay-skip e (erase e spare gs)
 erase-lay-grows e zero (zero ∷ gs) [] pos = (inl refl, erase-lay-grows e zero gs [] pos)
 erase-lay-grows e zero (zero ∷ gs) (y ∷ p) pos = (inl refl, erase-lay-grows e zero gs p pos)
 erase-lay-grows e (suc spare) (zero ∷ gs) p pos = rw (lay-skip e (erase e spare gs) p pos) (inl refl, erase-lay-grows e spare gs p pos)
+
+-- what is not erased has the same zero groups
+pub unerased-zeros : (e : ℕ) (gs : List ℕ) → 0 < e → zeros (unerased e gs) ≡ zeros gs
+unfolding unerased zeros
+unerased-zeros e [] pos = refl
+unerased-zeros e (zero ∷ gs) pos = rw (ne-eqb 0 e (λ q. omega arith), unerased-zeros e gs pos)
+unerased-zeros e (suc x ∷ gs) pos = elim (ℕ-discrete (suc x) e) [
+  | yes q ↦ rw (eq-eqb (suc x) e q, unerased-zeros e gs pos)
+  | no d ↦ rw (ne-eqb (suc x) e d, unerased-zeros e gs pos)
+]

@@ -17,3 +17,4 @@ pub mod Demand
 pub mod Rows
 pub mod Published
 pub mod Sample
+pub mod Replies

@@ -48,3 +48,7 @@ least-found test from fuel n l h p = elim (le-or-lt (from + fuel) (least test fr
 pub both-true : (a b : Bool) → (a && b) ≡ true → (a ≡ true) × (b ≡ true)
 both-true true b h = (refl, h)
 both-true false b h = (cc, cc)
+
+pub and-false : (a : Bool) → (a && false) ≡ false
+and-false true = refl
+and-false false = refl
