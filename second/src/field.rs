@@ -1,0 +1,152 @@
+//! "Reading" and "Writing" of one field.
+
+use crate::cells;
+use crate::counting::Counting;
+use crate::dealing;
+use crate::layout::{Layout, Layouts, Shape, GROUPS_OFFERED};
+use crate::refusal::Refusal;
+use crate::whole::Whole;
+
+#[derive(Clone, Copy, Debug, PartialEq, Eq)]
+pub struct Reading {
+    pub generation: usize,
+    pub number: u64,
+    pub left: usize,
+}
+
+#[derive(Clone, Debug, PartialEq, Eq)]
+pub struct Written {
+    pub generation: usize,
+    pub turned: u64,
+    pub cells: Vec<u8>,
+}
+
+/// Refusals in the order 1, 2, 3, 4.
+pub fn read(shape: Shape, cells: &[u8], layouts: &mut Layouts) -> Result<Reading, Refusal> {
+    let layout = layouts.grant(shape, GROUPS_OFFERED)?;
+    let groups = cells::groups_of(&layout, cells)?;
+    reading_of(&layout, &groups, &mut layouts.counting).ok_or(Refusal::NoReading)
+}
+
+/// Refusals in the order 1, 2, 3, 6, 4, 5. The lent cells stay as they are; an
+/// accepted write answers the new ones.
+pub fn write(
+    shape: Shape,
+    number: u64,
+    cells: &[u8],
+    layouts: &mut Layouts,
+) -> Result<Written, Refusal> {
+    let layout = layouts.grant(shape, GROUPS_OFFERED)?;
+    let groups = cells::groups_of(&layout, cells)?;
+    if number >= shape.v {
+        return Err(Refusal::NumberOutOfRange);
+    }
+    let counting = &mut layouts.counting;
+    let reading = reading_of(&layout, &groups, counting).ok_or(Refusal::NoReading)?;
+    let generation = if is_blank(&groups) {
+        1
+    } else {
+        reading.generation + 1
+    };
+    if generation > layout.generations() {
+        return Err(Refusal::LastGenerationUsed);
+    }
+    let prepared = prepared_for(generation, &layout, groups);
+    let pattern = pattern_for(generation, &layout, &Whole::from(number), counting)
+        .expect("conditions b to d leave a pattern for every number below v");
+    let after = cells::bytes_of_groups(&layout, &with_pattern(&prepared, &pattern));
+    Ok(Written {
+        generation,
+        turned: cells::ones(&after) - cells::ones(cells),
+        cells: after,
+    })
+}
+
+fn is_blank(groups: &[u64]) -> bool {
+    zeros_among(groups) == groups.len()
+}
+
+fn zeros_among(groups: &[u64]) -> usize {
+    groups.iter().filter(|group| **group == 0).count()
+}
+
+fn reading_of(layout: &Layout, groups: &[u64], counting: &mut Counting) -> Option<Reading> {
+    let generation = generation_of(layout, zeros_among(groups));
+    let places = places_of(generation, layout, groups);
+    // "From generation 2 on the unerased groups must number exactly h_i."
+    if places.len() != layout.count(generation) {
+        return None;
+    }
+    let number = match layout.deal(generation) {
+        Some(deal) => deal.number(&places, counting),
+        None => dealing::last_number(&places, layout.erased())?,
+    };
+    // "The number must be below v."
+    let number = number.to_u64().filter(|number| *number < layout.range())?;
+    // "Writes left: t for all-zero cells, else t less the generation."
+    let used = if is_blank(groups) { 0 } else { generation };
+    let left = layout.generations() - used;
+    Some(Reading {
+        generation,
+        number,
+        left,
+    })
+}
+
+/// "Let z be the count of zero groups. Generation 1 if z ≥ h_2; i if h_i > z ≥
+/// h_(i+1); t if z < h_t."
+fn generation_of(layout: &Layout, zeros: usize) -> usize {
+    let last = layout.generations();
+    let mut below_last = 1..last;
+    below_last
+        .find(|generation| zeros >= layout.count(generation + 1))
+        .unwrap_or(last)
+}
+
+/// All groups in generation 1, where the all-ones value is data; the unerased
+/// groups from then on.
+fn places_of(generation: usize, layout: &Layout, groups: &[u64]) -> Vec<u64> {
+    let is_place = |group: &u64| generation == 1 || *group != layout.erased();
+    groups.iter().copied().filter(is_place).collect()
+}
+
+/// "Every nonzero group is set to all ones; then, while more than h_(i+1) zero
+/// groups remain, the leftmost zero group is erased." Blank cells come to
+/// generation 1 as they are, having h_1 zero groups.
+fn prepared_for(generation: usize, layout: &Layout, groups: Vec<u64>) -> Vec<u64> {
+    let mut spare = zeros_among(&groups) - layout.count(generation);
+    let mut prepared = groups;
+    for group in prepared.iter_mut() {
+        if *group != 0 {
+            *group = layout.erased();
+        } else if spare > 0 {
+            *group = layout.erased();
+            spare -= 1;
+        }
+    }
+    prepared
+}
+
+/// The values that `number` gives the generation's places; nothing where it has
+/// no pattern for so large a number.
+pub fn pattern_for(
+    generation: usize,
+    layout: &Layout,
+    number: &Whole,
+    counting: &mut Counting,
+) -> Option<Vec<u64>> {
+    match layout.deal(generation) {
+        Some(deal) => deal.pattern(number, counting),
+        None => dealing::last_pattern(number, layout.count(generation), layout.erased()),
+    }
+}
+
+/// Sets the zero groups, which are the places, from left to right.
+pub fn with_pattern(groups: &[u64], pattern: &[u64]) -> Vec<u64> {
+    let mut set = groups.to_vec();
+    let places = set.iter_mut().filter(|group| **group == 0);
+    for (group, value) in places.zip(pattern) {
+        *group = *value;
+    }
+    set
+}

@@ -1,0 +1,169 @@
+//! "Layout": the bounds, conditions a to d, and the least list that meets them.
+
+use crate::counting::Counting;
+use crate::dealing::Deal;
+use crate::refusal::Refusal;
+use crate::whole::Whole;
+use std::collections::HashMap;
+use std::ops::RangeInclusive;
+
+const GROUP_BOUNDS: RangeInclusive<u64> = 2..=4;
+const GENERATION_BOUNDS: RangeInclusive<u64> = 2..=16;
+const RANGE_BOUNDS: RangeInclusive<u64> = 2..=1 << 56;
+const OFFERED_BOUNDS: RangeInclusive<u64> = 0..=256;
+
+/// "Read, write and export ask for their layout with g = 256."
+pub const GROUPS_OFFERED: u64 = 256;
+
+/// m, t and v as they are asked for, within their bounds or not.
+#[derive(Clone, Copy, Debug, PartialEq, Eq, Hash)]
+pub struct Shape {
+    pub m: u64,
+    pub t: u64,
+    pub v: u64,
+}
+
+impl Shape {
+    fn is_within_bounds(&self) -> bool {
+        GROUP_BOUNDS.contains(&self.m)
+            && GENERATION_BOUNDS.contains(&self.t)
+            && RANGE_BOUNDS.contains(&self.v)
+    }
+
+    /// 2^m − 1, the value of an erased group.
+    fn erased(&self) -> u64 {
+        (1 << self.m) - 1
+    }
+}
+
+/// A granted list h_1 .. h_t, with the shape it was granted for.
+#[derive(Clone, Debug, PartialEq, Eq)]
+pub struct Layout {
+    shape: Shape,
+    counts: Vec<usize>,
+}
+
+impl Layout {
+    pub fn counts(&self) -> &[usize] {
+        &self.counts
+    }
+
+    /// h_i, with i from 1 as in the document.
+    pub fn count(&self, generation: usize) -> usize {
+        self.counts[generation - 1]
+    }
+
+    pub fn generations(&self) -> usize {
+        self.counts.len()
+    }
+
+    pub fn groups(&self) -> usize {
+        self.count(1)
+    }
+
+    pub fn range(&self) -> u64 {
+        self.shape.v
+    }
+
+    pub fn erased(&self) -> u64 {
+        self.shape.erased()
+    }
+
+    pub fn wits_in_group(&self) -> usize {
+        self.shape.m as usize
+    }
+
+    pub fn wits(&self) -> usize {
+        self.wits_in_group() * self.groups()
+    }
+
+    /// How a generation below the last deals its numbers; nothing for the last.
+    pub fn deal(&self, generation: usize) -> Option<Deal> {
+        let count = self.count(generation);
+        let next = *self.counts.get(generation)?;
+        Some(match generation {
+            1 => Deal::first(self.erased(), count, next),
+            _ => Deal::middle(self.erased(), count, next),
+        })
+    }
+
+    /// How many numbers a generation has patterns for, the left side of its
+    /// condition b, c or d.
+    pub fn room(&self, generation: usize, counting: &mut Counting) -> Whole {
+        match self.deal(generation) {
+            Some(deal) => deal.room(counting),
+            None => last_room(self.erased(), self.count(generation)),
+        }
+    }
+}
+
+/// Grants layouts, and remembers the least list of each shape it was asked for.
+#[derive(Default)]
+pub struct Layouts {
+    pub counting: Counting,
+    known: HashMap<Shape, Layout>,
+}
+
+impl Layouts {
+    pub fn grant(&mut self, shape: Shape, offered: u64) -> Result<Layout, Refusal> {
+        if !shape.is_within_bounds() || !OFFERED_BOUNDS.contains(&offered) {
+            return Err(Refusal::OutOfBounds);
+        }
+        let layout = self.least(shape);
+        // "It fits when h_1 ≤ g."
+        if layout.groups() as u64 <= offered {
+            Ok(layout)
+        } else {
+            Err(Refusal::NoListFits)
+        }
+    }
+
+    fn least(&mut self, shape: Shape) -> Layout {
+        if let Some(layout) = self.known.get(&shape) {
+            return layout.clone();
+        }
+        let counts = least_list(shape, &mut self.counting);
+        let layout = Layout { shape, counts };
+        self.known.insert(shape, layout.clone());
+        layout
+    }
+}
+
+/// The left side of condition d.
+fn last_room(erased: u64, count: usize) -> Whole {
+    Whole::power(erased, count)
+        .minus(&Whole::from(1))
+        .unwrap_or_else(Whole::zero)
+}
+
+/// From the last count upward: a lower h_(i+1) leaves more patterns to the same
+/// h_i, so the least h_(i+1) never costs a higher h_i, and every count of this
+/// list is the least there is.
+fn least_list(shape: Shape, counting: &mut Counting) -> Vec<usize> {
+    let erased = shape.erased();
+    let range = Whole::from(shape.v);
+    let last = least_count_from(1, |count| last_room(erased, count) >= range);
+    let mut from_last = vec![last];
+    let mut next = last;
+    for _ in 2..shape.t {
+        next = least_count_from(next + 1, |count| {
+            Deal::middle(erased, count, next).room(counting) >= range
+        });
+        from_last.push(next);
+    }
+    from_last.push(least_count_from(next + 1, |count| {
+        Deal::first(erased, count, next).room(counting) >= range
+    }));
+    from_last.reverse();
+    from_last
+}
+
+/// The left sides of b, c and d grow without end as the count grows, so the
+/// search comes to an end.
+fn least_count_from(start: usize, mut meets: impl FnMut(usize) -> bool) -> usize {
+    let mut count = start;
+    while !meets(count) {
+        count += 1;
+    }
+    count
+}

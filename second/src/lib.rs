@@ -1,0 +1,20 @@
+//! Numbers kept in write-once cells by the position modulation code, written
+//! from the words of document 01 and, where it refers to it, the paper 003.
+//!
+//! Every rule is the plain definition over whole numbers of any size, so that
+//! its answers can be held against those of a program built another way.
+
+pub mod answers;
+pub mod cells;
+pub mod comparing;
+pub mod counting;
+pub mod dealing;
+pub mod dump;
+pub mod field;
+pub mod layout;
+pub mod listing;
+pub mod protocol;
+pub mod refusal;
+pub mod stream;
+pub mod values;
+pub mod whole;

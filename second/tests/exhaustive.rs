@@ -1,0 +1,271 @@
+//! Goes through every buffer of small fields and holds reading and writing
+//! against a table made by listing the patterns one by one in the document's
+//! order, without the formula for ranks.
+
+use second::field::{self, Reading, Written};
+use second::layout::{Layouts, Shape};
+use second::refusal::Refusal;
+use std::collections::HashMap;
+
+type Pattern = Vec<u64>;
+
+/// m, t, v and the list that goes with them, 16 wits at most.
+const FIELDS: [(u64, u64, u64, &[usize]); 15] = [
+    (2, 2, 2, &[2, 1]),
+    (2, 2, 20, &[5, 3]),
+    (2, 2, 80, &[6, 4]),
+    (2, 3, 4, &[4, 3, 2]),
+    (2, 3, 9, &[6, 5, 3]),
+    (2, 3, 30, &[8, 6, 4]),
+    (2, 4, 9, &[7, 6, 5, 3]),
+    (2, 8, 2, &[8, 7, 6, 5, 4, 3, 2, 1]),
+    (3, 2, 48, &[4, 2]),
+    (3, 3, 36, &[5, 4, 2]),
+    (3, 5, 6, &[5, 4, 3, 2, 1]),
+    (4, 2, 14, &[2, 1]),
+    (4, 2, 200, &[4, 2]),
+    (4, 3, 40, &[4, 3, 2]),
+    (4, 4, 14, &[4, 3, 2, 1]),
+];
+
+/// One small field, with the patterns of each generation listed in order.
+struct Field {
+    shape: Shape,
+    counts: Vec<usize>,
+    listed: Vec<Vec<Pattern>>,
+    /// Which generation and number each readable buffer stands for.
+    readable: HashMap<Vec<u8>, (usize, u64)>,
+}
+
+impl Field {
+    fn new(shape: Shape, counts: &[usize]) -> Field {
+        let counts = counts.to_vec();
+        let generations = 1..=counts.len();
+        let listed = generations
+            .map(|generation| patterns_in_order(shape.m, &counts, generation))
+            .collect();
+        let mut field = Field {
+            shape,
+            counts,
+            listed,
+            readable: HashMap::new(),
+        };
+        field.list_readable_buffers();
+        field
+    }
+
+    fn erased(&self) -> u64 {
+        (1 << self.shape.m) - 1
+    }
+
+    fn list_readable_buffers(&mut self) {
+        for generation in 1..=self.counts.len() {
+            let in_range = self.listed[generation - 1]
+                .iter()
+                .take(self.shape.v as usize);
+            let in_range: Vec<Pattern> = in_range.cloned().collect();
+            assert_eq!(in_range.len() as u64, self.shape.v);
+            for places in choices(self.counts[0], self.counts[generation - 1]) {
+                for (number, pattern) in in_range.iter().enumerate() {
+                    let cells = self.cells(&self.on_places(&places, pattern));
+                    let stands_for = (generation, number as u64);
+                    let before = self.readable.insert(cells, stands_for);
+                    assert_eq!(before, None, "one buffer would have two readings");
+                }
+            }
+        }
+    }
+
+    fn on_places(&self, places: &[bool], pattern: &[u64]) -> Vec<u64> {
+        let mut values = pattern.iter();
+        let group = |is_place: &bool| match is_place {
+            true => *values.next().expect("a value for each place"),
+            false => self.erased(),
+        };
+        places.iter().map(group).collect()
+    }
+
+    /// By way of the wits written out as text.
+    fn cells(&self, groups: &[u64]) -> Vec<u8> {
+        let width = self.shape.m as usize;
+        let wits = groups
+            .iter()
+            .map(|group| format!("{:0w$b}", group, w = width));
+        let mut wits: String = wits.collect();
+        while wits.len() % 8 != 0 {
+            wits.push('0');
+        }
+        let byte = |start: usize| u8::from_str_radix(&wits[start..start + 8], 2);
+        let starts = (0..wits.len()).step_by(8);
+        starts
+            .map(|start| byte(start).expect("eight wits"))
+            .collect()
+    }
+
+    /// The inverse of `cells`; nothing where a left-over bit is set.
+    fn groups(&self, cells: &[u8]) -> Option<Vec<u64>> {
+        let wits: String = cells.iter().map(|byte| format!("{:08b}", byte)).collect();
+        let (in_groups, left_over) = wits.split_at(self.shape.m as usize * self.counts[0]);
+        if left_over.contains('1') {
+            return None;
+        }
+        let width = self.shape.m as usize;
+        let starts = (0..in_groups.len()).step_by(width);
+        let group = |start: usize| u64::from_str_radix(&in_groups[start..start + width], 2);
+        starts.map(|start| group(start).ok()).collect()
+    }
+
+    fn reading_due(&self, cells: &[u8]) -> Result<Reading, Refusal> {
+        if self.groups(cells).is_none() {
+            return Err(Refusal::WrongBytes);
+        }
+        let found = self.readable.get(cells).ok_or(Refusal::NoReading)?;
+        let (generation, number) = *found;
+        let is_blank = cells.iter().all(|byte| *byte == 0);
+        let left = self.counts.len() - if is_blank { 0 } else { generation };
+        Ok(Reading {
+            generation,
+            number,
+            left,
+        })
+    }
+
+    /// The section "Writing" with the pattern looked up in the list.
+    fn write_due(&self, cells: &[u8], number: u64) -> Result<Written, Refusal> {
+        let mut groups = self.groups(cells).ok_or(Refusal::WrongBytes)?;
+        if number >= self.shape.v {
+            return Err(Refusal::NumberOutOfRange);
+        }
+        let reading = self.reading_due(cells)?;
+        if reading.left == 0 {
+            return Err(Refusal::LastGenerationUsed);
+        }
+        let generation = self.counts.len() - reading.left + 1;
+        for group in groups.iter_mut().filter(|group| **group != 0) {
+            *group = self.erased();
+        }
+        while groups.iter().filter(|group| **group == 0).count() > self.counts[generation - 1] {
+            let leftmost = groups.iter_mut().find(|group| **group == 0);
+            *leftmost.expect("a zero group is left") = self.erased();
+        }
+        let places: Vec<bool> = groups.iter().map(|group| *group == 0).collect();
+        let pattern = &self.listed[generation - 1][number as usize];
+        let after = self.cells(&self.on_places(&places, pattern));
+        let ones = |cells: &[u8]| cells.iter().map(|byte| byte.count_ones()).sum::<u32>();
+        Ok(Written {
+            generation,
+            turned: u64::from(ones(&after) - ones(cells)),
+            cells: after,
+        })
+    }
+}
+
+/// Every choice of `chosen` places, in the order of the sorted list: as a
+/// number in base 2, leftmost place most significant.
+fn choices(places: usize, chosen: usize) -> Vec<Vec<bool>> {
+    let masks = (0..1_u32 << places).filter(|mask| mask.count_ones() as usize == chosen);
+    let places_of = |mask: u32| (0..places).rev().map(move |bit| mask >> bit & 1 == 1);
+    masks.map(|mask| places_of(mask).collect()).collect()
+}
+
+/// Every value string of this length over `low` to `high`, in the order of the
+/// sorted list.
+fn value_strings(length: usize, low: u64, high: u64) -> Vec<Pattern> {
+    if length == 0 {
+        return vec![Vec::new()];
+    }
+    let rest = value_strings(length - 1, low, high);
+    let starting_with = |first: u64| rest.iter().map(move |tail| [&[first], &tail[..]].concat());
+    (low..=high).flat_map(starting_with).collect()
+}
+
+/// By number of written places, then by choice of places, then by values.
+fn patterns_in_order(m: u64, counts: &[usize], generation: usize) -> Vec<Pattern> {
+    let places = counts[generation - 1];
+    let nonzero = (1 << m) - 1;
+    let next = match counts.get(generation) {
+        Some(next) => *next,
+        // The all-zero string is first in the list and stands for no number.
+        None => return value_strings(places, 0, nonzero - 1).split_off(1),
+    };
+    let (fewest, highest) = match generation {
+        1 => (0, nonzero),
+        _ => (1, nonzero - 1),
+    };
+    let mut patterns = Vec::new();
+    for written in fewest..=places - next {
+        let values_in_order = value_strings(written, 1, highest);
+        for chosen in choices(places, written) {
+            for values in &values_in_order {
+                let mut value = values.iter();
+                let place = |is_chosen: &bool| match is_chosen {
+                    true => *value.next().expect("a value for each chosen place"),
+                    false => 0,
+                };
+                patterns.push(chosen.iter().map(place).collect());
+            }
+        }
+    }
+    patterns
+}
+
+fn every_buffer(bytes: usize) -> impl Iterator<Item = Vec<u8>> {
+    assert!(bytes <= 2);
+    (0..1_u32 << (8 * bytes)).map(move |cells| cells.to_be_bytes()[4 - bytes..].to_vec())
+}
+
+fn check_writes(field: &Field, cells: &[u8], layouts: &mut Layouts) {
+    for number in 0..=field.shape.v {
+        let written = field::write(field.shape, number, cells, layouts);
+        assert_eq!(written, field.write_due(cells, number));
+        let written = match written {
+            Ok(written) => written,
+            Err(_) => continue,
+        };
+        let mut bytes = cells.iter().zip(&written.cells);
+        assert!(bytes.all(|(before, after)| before & !after == 0));
+        let read_back = field::read(field.shape, &written.cells, layouts)
+            .map(|reading| (reading.generation, reading.number));
+        assert_eq!(read_back, Ok((written.generation, number)));
+    }
+}
+
+#[test]
+fn every_buffer_of_small_fields() {
+    let mut layouts = Layouts::default();
+    for (m, t, v, counts) in FIELDS {
+        let shape = Shape { m, t, v };
+        let granted = layouts
+            .grant(shape, 256)
+            .map(|layout| layout.counts().to_vec());
+        assert_eq!(granted, Ok(counts.to_vec()));
+        let field = Field::new(shape, counts);
+        let bytes = (m as usize * counts[0] + 7) / 8;
+        for cells in every_buffer(bytes) {
+            let due = field.reading_due(&cells);
+            assert_eq!(field::read(shape, &cells, &mut layouts), due, "{:?}", cells);
+            if due.is_ok() {
+                check_writes(&field, &cells, &mut layouts);
+            } else {
+                let refused = field::write(shape, 0, &cells, &mut layouts);
+                assert_eq!(refused, field.write_due(&cells, 0));
+            }
+        }
+    }
+}
+
+#[test]
+fn buffers_of_another_byte_count_are_refused() {
+    let mut layouts = Layouts::default();
+    for (m, t, v, counts) in FIELDS {
+        let shape = Shape { m, t, v };
+        let due = (m as usize * counts[0] + 7) / 8;
+        for count in (0..5).filter(|count| *count != due) {
+            let cells = vec![0; count];
+            let read = field::read(shape, &cells, &mut layouts);
+            assert_eq!(read, Err(Refusal::WrongBytes));
+            let written = field::write(shape, 0, &cells, &mut layouts);
+            assert_eq!(written, Err(Refusal::WrongBytes));
+        }
+    }
+}

@@ -1,0 +1,232 @@
+//! Calls as bytes, their lines, and the comparison of two sets of answers.
+
+use second::answers;
+use second::comparing::{compare, Comparison};
+use second::dump;
+use second::layout::{Layouts, Shape};
+use second::protocol::{self, Call, Step};
+use second::stream::Maker;
+
+const SHAPE: Shape = Shape { m: 2, t: 3, v: 4 };
+
+fn answered(stream: &[u8]) -> String {
+    let mut printed = Vec::new();
+    answers::answer_stream(&mut &stream[..], &mut printed).expect("both are in memory");
+    String::from_utf8(printed).expect("answers are plain text")
+}
+
+fn layout_call(v: u64, offered: u64) -> Call {
+    let shape = Shape { v, ..SHAPE };
+    Call::Layout { shape, offered }
+}
+
+fn write_call(number: u64, cells: &[u8]) -> Call {
+    Call::Write {
+        shape: SHAPE,
+        number,
+        cells: cells.to_vec(),
+    }
+}
+
+fn read_call(cells: &[u8]) -> Call {
+    Call::Read {
+        shape: SHAPE,
+        cells: cells.to_vec(),
+    }
+}
+
+fn export_call(serial: u64, output_length: u64, cells: &[u8]) -> Call {
+    Call::Export {
+        serial,
+        shape: SHAPE,
+        output_length,
+        cells: cells.to_vec(),
+    }
+}
+
+fn walk_call(dump: &[u8]) -> Call {
+    Call::Walk {
+        dump: dump.to_vec(),
+    }
+}
+
+fn line_of(call: Call) -> String {
+    answers::answer(&call, &mut Layouts::default())
+}
+
+#[test]
+fn lines_of_layout_and_read() {
+    assert_eq!(line_of(layout_call(4, 4)), "layout 0 4 3 2\n");
+    assert_eq!(line_of(layout_call(4, 3)), "layout 2\n");
+    assert_eq!(line_of(layout_call(1, 3)), "layout 1\n");
+    assert_eq!(line_of(read_call(&[0x23])), "read 0 2 3 1\n");
+    assert_eq!(line_of(read_call(&[0x0f])), "read 4\n");
+    assert_eq!(line_of(read_call(&[])), "read 3\n");
+}
+
+#[test]
+fn lines_of_write_and_export() {
+    assert_eq!(line_of(write_call(3, &[0x00])), "write 0 1 2 03\n");
+    assert_eq!(line_of(write_call(1, &[0x4f])), "write 5 4f\n");
+    assert_eq!(line_of(write_call(4, &[0x4f])), "write 6 4f\n");
+    assert_eq!(line_of(write_call(3, &[])), "write 3\n");
+    let stored = line_of(export_call(7, 8, &[0x4f]));
+    assert_eq!(stored, "export 0 6 07020304014fa5a5\n");
+    assert_eq!(line_of(export_call(7, 5, &[0x4f])), "export 9 a5a5a5a5a5\n");
+    assert_eq!(line_of(export_call(7, 0, &[0x4f])), "export 9\n");
+    assert_eq!(line_of(export_call(1 << 63, 1, &[])), "export 10 a5\n");
+}
+
+#[test]
+fn lines_of_walks() {
+    let record = dump::record_bytes(300, SHAPE, &[0x23]);
+    let refused = dump::record_bytes(1, SHAPE, &[]);
+    let dump = [record, refused, vec![0x80]].concat();
+    let due = "record 300 2 3 4 6 1 0 2 3 1\nrecord 1 2 3 4 12 0 3\nstop 7 12\n";
+    assert_eq!(line_of(walk_call(&dump)), due);
+    assert_eq!(line_of(walk_call(&[])), "end\n");
+    assert_eq!(line_of(walk_call(&[0; 65_537])), "stop 8\n");
+}
+
+#[test]
+fn made_calls_come_back_from_their_bytes() {
+    let mut maker = Maker::new(3);
+    for _ in 0..2_000 {
+        let call = maker.call();
+        let bytes = call.to_bytes();
+        let mut rest = &bytes[..];
+        let step = protocol::next_step(&mut rest).expect("the stream is in memory");
+        assert_eq!(step, Step::Call(call));
+        assert!(rest.is_empty());
+    }
+}
+
+#[test]
+fn a_call_cut_off_anywhere_is_said_so() {
+    let calls = [
+        layout_call(4, 4),
+        read_call(&[0x23]),
+        write_call(3, &[0]),
+        export_call(7, 8, &[0x4f]),
+        walk_call(&[1, 2, 3]),
+    ];
+    for call in calls {
+        let bytes = call.to_bytes();
+        for length in 1..bytes.len() {
+            assert_eq!(answered(&bytes[..length]), "cut off\n");
+        }
+        let followed = [&bytes[..], &[1, 2]].concat();
+        assert!(answered(&followed).ends_with("\ncut off\n"));
+    }
+    assert_eq!(answered(&[]), "");
+}
+
+#[test]
+fn operations_that_are_none() {
+    for operation in (0..=255).filter(|operation| !(1..=5).contains(operation)) {
+        let stream = [&read_call(&[0x23]).to_bytes()[..], &[operation, 1, 2]].concat();
+        assert_eq!(answered(&stream), "read 0 2 3 1\nno such call\n");
+    }
+}
+
+#[test]
+fn calls_that_are_too_long() {
+    let longest = walk_call(&[0; 65_537]).to_bytes();
+    assert_eq!(answered(&longest), "stop 8\n");
+    let longer = walk_call(&[0; 65_538]).to_bytes();
+    assert_eq!(answered(&longer), "too long\n");
+    let longer = read_call(&[0; 65_538]).to_bytes();
+    assert_eq!(answered(&longer), "too long\n");
+    let lent = export_call(7, 1_024, &[0x4f]).to_bytes();
+    assert!(answered(&lent).starts_with("export 0 6 "));
+    let lent = export_call(7, 1_025, &[0x4f]).to_bytes();
+    assert_eq!(answered(&lent), "too long\n");
+}
+
+fn sample_stream() -> Vec<u8> {
+    let dump = dump::record_bytes(300, SHAPE, &[0x23]);
+    let calls = [
+        layout_call(4, 4),
+        write_call(3, &[0]),
+        walk_call(&dump),
+        walk_call(&[0x80; 5_000]),
+    ];
+    calls.iter().flat_map(|call| call.to_bytes()).collect()
+}
+
+fn report_of(stream: &[u8], answers: &str) -> String {
+    match compare(stream, answers.as_bytes(), "calls.bin").expect("all is in memory") {
+        Comparison::Agree { calls } => format!("{} calls agree", calls),
+        Comparison::Differ { report } => report,
+    }
+}
+
+#[test]
+fn equal_answers_agree() {
+    let stream = sample_stream();
+    assert_eq!(report_of(&stream, &answered(&stream)), "4 calls agree");
+    assert_eq!(report_of(&[], ""), "0 calls agree");
+    let cut_off = &stream[..stream.len() - 1];
+    assert_eq!(report_of(cut_off, &answered(cut_off)), "3 calls agree");
+}
+
+#[test]
+fn a_difference_is_reported_with_its_replay() {
+    let stream = sample_stream();
+    let other = answered(&stream).replace("write 0 1 2 03", "write 0 1 1 03");
+    let report = report_of(&stream, &other);
+    let lines: Vec<&str> = report.lines().collect();
+    let meaning = "call 2: write m 2, t 3, v 4, number 3, 1 byte of cells";
+    assert_eq!(lines[0], meaning);
+    assert_eq!(lines[2], "here: write 0 1 2 03");
+    assert_eq!(lines[3], "there: write 0 1 1 03");
+    let opening = "replay: printf '";
+    let closing = "' | second answers";
+    assert!(lines[4].starts_with(opening) && lines[4].ends_with(closing));
+    let escapes = &lines[4][opening.len()..lines[4].len() - closing.len()];
+    let replayed: Vec<u8> = escapes
+        .split("\\x")
+        .skip(1)
+        .map(|byte| u8::from_str_radix(byte, 16).expect("two hex digits"))
+        .collect();
+    assert_eq!(replayed, write_call(3, &[0]).to_bytes());
+    assert_eq!(escapes.len(), 4 * replayed.len());
+}
+
+#[test]
+fn a_later_line_of_a_walk_is_found() {
+    let stream = sample_stream();
+    let report = report_of(
+        &stream,
+        &answered(&stream).replacen("\nend\n", "\nstop 7 6\n", 1),
+    );
+    assert!(report.starts_with("call 3: walk a dump of 7 bytes\nline 2 of its answer\n"));
+    assert!(report.contains("\nhere: end\nthere: stop 7 6\n"));
+}
+
+#[test]
+fn a_long_call_is_replayed_from_the_stream() {
+    let stream = sample_stream();
+    let report = report_of(&stream, &answered(&stream).replace("stop 7 0", "end"));
+    let length = 1 + 8 + 5_000;
+    let offset = stream.len() - length + 1;
+    let replay = format!(
+        "tail -c +{} calls.bin | head -c {} | second answers",
+        offset, length
+    );
+    assert!(report.contains(&replay));
+}
+
+#[test]
+fn missing_and_further_lines_are_differences() {
+    let stream = sample_stream();
+    let answers = answered(&stream);
+    let without_last = answers.replace("stop 7 0\n", "");
+    assert!(report_of(&stream, &without_last).contains("\nthere: no line\n"));
+    let without_line_feed = &answers[..answers.len() - 1];
+    let report = report_of(&stream, without_line_feed);
+    assert!(report.contains("\nthere: stop 7 0 (no line feed)\n"));
+    let report = report_of(&stream, &(answers + "end\n"));
+    assert!(report.starts_with("call 5: the end of the stream\n"));
+    assert!(report.contains("\nhere: no line\nthere: end\n"));
+}
