@@ -17,7 +17,7 @@ use Rattle.code.proofs.Deal.{deal-is, plainly-is, plain-written}
 use Rattle.code.proofs.Conditions.{Holds, Layout, holds-falls, holds-room, head-most}
 use Rattle.code.proofs.Groups.{Grows, zeros-written, unerased-zeros, upto-grows, erase-wiped, erase-zeros, erase-length, lay-is, lay-blank, lay-grows, erase-lay-grows}
 
-base-bounds : (e first n : ℕ) → 2 ≤ e → first ≤ 1 → (0 < base e n) × (e - 1 ≤ base e n) × (start first n ≤ 1)
+pub base-bounds : (e first n : ℕ) → 2 ≤ e → first ≤ 1 → (0 < base e n) × (e - 1 ≤ base e n) × (start first n ≤ 1)
 unfolding base start
 base-bounds e first zero h f = omega arith
 base-bounds e first (suc n) h f = omega arith
@@ -134,6 +134,10 @@ module _ (e first : ℕ) (hs vs : List ℕ) where
   unfolding write
   write-read x gs r z q = rw (ne-eqb (written gs) 0 (λ q. omega arith), q)
 
+  pub write-taken : (x : ℕ) (gs : List ℕ) (n : ℕ) → n < length hs → x < getD vs n 0 → writeAt e first hs vs x gs n ≡ wrote (suc n) (after e first hs n x gs)
+  unfolding writeAt
+  write-taken x gs n l h = rw (lt-ltb n (length hs) l, lt-ltb x (getD vs n 0) h)
+
   write-at : (x : ℕ) (gs : List ℕ) (n i : ℕ) (gs′ : List ℕ) → writeAt e first hs vs x gs n ≡ wrote i gs′ →
       (n < length hs) × (x < getD vs n 0) × (i ≡ suc n) × (gs′ ≡ after e first hs n x gs)
   unfolding writeAt
@@ -159,7 +163,7 @@ module _ (e first : ℕ) (hs vs : List ℕ) where
     pub grows : Grows e gs gs′
 
   module _ (y : Layout e first hs vs) where
-    pictured : (n x : ℕ) → n < length hs → x < getD vs n 0 →
+    pub pictured : (n x : ℕ) → n < length hs → x < getD vs n 0 →
         Pictured e (base e n) (start first n) (getD hs n 0) (getD hs (suc n) 0) x (pattern e (base e n) (start first n) (getD hs n 0) (getD hs (suc n) 0) x)
     pictured n x nl hx =
         let q = base-bounds e first n (y .wide) (y .form) in

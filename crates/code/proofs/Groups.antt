@@ -123,3 +123,16 @@ unerased-zeros e (suc x ∷ gs) pos = elim (ℕ-discrete (suc x) e) [
   | yes q ↦ rw (eq-eqb (suc x) e q, unerased-zeros e gs pos)
   | no d ↦ rw (ne-eqb (suc x) e d, unerased-zeros e gs pos)
 ]
+
+-- blank groups: all are zero, and nothing is erased where none is spare
+pub blank-zeros : (gs : List ℕ) → written gs ≡ 0 → zeros gs ≡ length gs
+blank-zeros gs z = omega (arith, zeros-written gs)
+
+pub zeros-blank : (gs : List ℕ) → zeros gs ≡ length gs → written gs ≡ 0
+zeros-blank gs z = omega (arith, zeros-written gs)
+
+pub erase-blank : (e : ℕ) (gs : List ℕ) → written gs ≡ 0 → erase e 0 gs ≡ gs
+unfolding erase written
+erase-blank e [] z = refl
+erase-blank e (zero ∷ gs) z = ap (λ (t : List ℕ). 0 ∷ t) (erase-blank e gs z)
+erase-blank e (suc x ∷ gs) z = absurd (omega arith)

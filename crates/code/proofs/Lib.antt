@@ -18,3 +18,4 @@ pub mod Rows
 pub mod Published
 pub mod Sample
 pub mod Replies
+pub mod Writes
