@@ -19,3 +19,6 @@ pub mod Published
 pub mod Sample
 pub mod Replies
 pub mod Writes
+pub mod LayoutReply
+pub mod Places
+pub mod Sums

@@ -1,14 +1,14 @@
 -- The replies of read and write, test by test, as a program comes to them.
-use Prim.Native.Nat.{ℕ, zero, suc, _-_, _^_, _≤_, _<_}
-use mathlib.Core.Path.{_≡_, refl, sym, _∙_}
-use mathlib.Core.Bool.{Bool, true, false, not, cond}
+use Prim.Native.Nat.{ℕ, suc, _-_, _^_, _≤_, _<_}
+use mathlib.Core.Path.{_≡_, refl, _∙_}
+use mathlib.Core.Bool.{Bool, true, false}
 use mathlib.Core.List.{List, [], _∷_}
 use native.Mathlib.Omega.{arith}
-use lib.ListN.{length, getD, replicate}
+use lib.ListN.{getD, replicate}
 use lib.Dec.{leb, eqb}
 use borrow.Author.Tests.{le-leb, lt-leb, eq-eqb, ne-eqb}
 use Rattle.code.specs.Cells.{opened, sound, stored, turned}
-use Rattle.code.specs.Field.{Reading, unread, reads, read, Writing, refused, wrote, write}
+use Rattle.code.specs.Field.{unread, reads, read, wrote, write}
 use Rattle.code.specs.Run.{kept}
 use Rattle.code.specs.Calls.{readCells, storing, writeCells, refusal, answer, outside, misfit, granted, layoutRefusal, fieldRead, fieldWrite, unsound, unreadable, generation, readRefusal, readReply, writeRefusal, madeAt, writeReply, writeLeaves}
 

@@ -1,6 +1,6 @@
 -- A write on groups as a program makes it: the place of the generation, the room for the number, the pattern, and the groups that are left.
 use Prim.Native.Nat.{ℕ, zero, suc, _-_, _^_, _≤_, _<_}
-use mathlib.Core.Path.{_≡_, refl, sym, _∙_}
+use mathlib.Core.Path.{_≡_, refl, _∙_}
 use mathlib.Core.Bool.{true}
 use mathlib.Core.List.{List}
 use native.Mathlib.Omega.{arith}
@@ -9,11 +9,11 @@ use Rattle.code.specs.Lists.{Upto}
 use Rattle.code.specs.Deal.{written}
 use Rattle.code.specs.Layout.{room}
 use Rattle.code.specs.Cells.{opened, sound}
-use Rattle.code.specs.Field.{zeros, past, base, start, pattern, reads, read, erase, cleared, lay, after, wrote, writeOn, write}
+use Rattle.code.specs.Field.{zeros, base, start, pattern, reads, read, erase, cleared, lay, after, wrote, writeOn, write}
 use Rattle.code.specs.Calls.{readCells, granted, layoutRefusal, fieldRead}
 use Rattle.code.proofs.Conditions.{holds-room}
 use Rattle.code.proofs.Groups.{upto-grows, blank-zeros, erase-blank}
-use Rattle.code.proofs.Field.{base-bounds, past-next, Ready, read-past, pictured, write-blank, write-read, write-taken}
+use Rattle.code.proofs.Field.{past-next, Ready, read-past, pictured, write-blank, write-read, write-taken}
 use Rattle.code.proofs.Demand.{within, counted, is-layout}
 
 module _ (m t v : ℕ) (ok : layoutRefusal m t v 256 ≡ 0) where

@@ -2,7 +2,7 @@
 use mathlib.Core.Path.{_≡_, refl, ap, _∙_}
 use mathlib.Core.Logic.{inl, inr}
 use Prim.Native.Nat.{ℕ, zero, suc, _+_, _-_, _*_, _/_, _^_, _≤_, _<_}
-use native.Mathlib.Nat.{pow-zero, pow-suc, mul-le-mul, mul-le-mul-left, mul-le-mul-right, le-of-mul-le-mul-right, le-mul-of-pos-right, div-eq-of-eq-mul-left, zero-lt-suc, mul-sub, mul-zero, mul-comm, lt-of-not-le, min-eq-left}
+use native.Mathlib.Nat.{pow-zero, pow-suc, mul-le-mul, mul-le-mul-left, le-of-mul-le-mul-right, le-mul-of-pos-right, div-eq-of-eq-mul-left, zero-lt-suc, mul-sub, mul-zero, mul-comm, lt-of-not-le, min-eq-left}
 use native.Mathlib.Decide.{decLe}
 use native.Mathlib.Numerals.{add-one}
 use native.Mathlib.Omega.{arith}
@@ -71,7 +71,10 @@ next-choose n j h = div-eq-of-eq-mul-left (omega arith) (move (choose n j) (n - 
     move : (c d c′ : ℕ) → c′ * suc j ≡ c * d → c * d ≡ c′ * (j + 1)
     move c d c′ e = omega arith
 
--- room for the product before the division
+-- room for a number below the cap times b, and for the product before the division
+pub small-product : (q b : ℕ) → q < cap → b ≤ 15 → q * b ≤ 2 ^ 56 * 15
+small-product q b h l = mul-le-mul {n₂ = 2 ^ 56} (omega arith) l
+
 pub room : (c n j : ℕ) → (j ≡ 0 → c ≤ 1) → c < cap → n ≤ 256 → c * (n - j) < 2 ^ 64
 room c n zero z h w = omega (arith, mul-le-mul {m₁ = n - 0} {m₂ = 256} (z refl) (omega arith))
 room c n (suc j) z h w = omega (arith, mul-le-mul {n₁ = c} {m₁ = n - suc j} {n₂ = 2 ^ 56} {m₂ = 255} (omega arith) (omega arith))
@@ -130,18 +133,17 @@ sum-begin b s first k term h e l = record {
   small = omega arith;
 }
 
-module _ (b s first k term sum j t : ℕ) (S : Sum b s first k term sum j) (e : t ≡ sat (choose s (suc j) * b ^ suc j)) where
+module _ (b s first k term sum j : ℕ) (S : Sum b s first k term sum j) (h : j + 1 < k) where
   sum-grown : fewer b s first (suc (suc j)) ≡ sum + choose s (suc j) * b ^ suc j
   sum-grown = omega (arith, fewer-step b s first (suc j) (omega (arith, S .low)), S .is-sum)
 
   -- the sum reaches the cap
-  pub sum-over : j + 1 < k → cap ≤ sum + t → cap ≤ fewer b s first k
-  sum-over h l = omega (arith, sum-grown, fewer-grows b s first (suc (suc j)) k (omega arith))
+  pub sum-over : cap ≤ sum + choose s (suc j) * b ^ suc j → cap ≤ fewer b s first k
+  sum-over l = omega (arith, sum-grown, fewer-grows b s first (suc (suc j)) k (omega arith))
 
-  pub sum-turn : j + 1 < k → sum + t < cap → Sum b s first k t (sum + t) (j + 1)
-  sum-turn h l =
-      let z : t ≡ choose s (suc j) * b ^ suc j = omega arith in
-      rw add-one (record { low = omega (arith, S .low); more = omega arith; is-term = z; is-sum = omega (arith, sum-grown); within = omega arith; small = l })
+  pub sum-turn : (t : ℕ) → t ≡ choose s (suc j) * b ^ suc j → sum + t < cap → Sum b s first k t (sum + t) (j + 1)
+  sum-turn t e l =
+      rw add-one (record { low = omega (arith, S .low); more = omega arith; is-term = e; is-sum = omega (arith, sum-grown); within = omega arith; small = l })
 
 pub sum-end : (b s first k term sum j : ℕ) → Sum b s first k term sum j → k ≤ j + 1 → sum ≡ sat (fewer b s first k)
 sum-end b s first k term sum j S h = let e : k ≡ suc j = omega (arith, S .more) in rw e (omega (arith, S .is-sum, S .small))

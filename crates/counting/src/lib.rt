@@ -72,7 +72,11 @@ pub fn fewer(b: u64, first: u64, s: u64, k: u64) -> u64
     let mut sum = term;
     let mut j = first;
     while j + 1 < k {
-        term = next_term(term, b, s, j);
+        let q = term * (s - j) / (j + 1);
+        if CAP <= q {
+            return CAP;
+        }
+        term = q * b;
         sum += term;
         if CAP <= sum {
             return CAP;

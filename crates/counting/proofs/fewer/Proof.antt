@@ -1,9 +1,10 @@
 -- `counting::fewer` meets its contract. Assumes nothing.
-use Prim.Native.Nat.{_-_}
+use mathlib.Core.Path.{refl}
+use Prim.Native.Nat.{_+_, _-_, _*_, _/_}
 use native.Mathlib.Omega.{arith}
 use borrow.Author.Needs.{needs}
 use Rattle.code.proofs.Count.{fewer-none}
-use Rattle.counting.proofs.Laws.{Sum, sum-begin, sum-over, sum-turn, sum-end}
+use Rattle.counting.proofs.Laws.{Sum, sum-begin, sum-over, sum-turn, sum-end, small-product, term-room, term-next, term-far}
 use Rattle.counting.proofs.fewer.Statement.{statement}
 use Rattle.counting.proofs.fewer.Tie as tie
 
@@ -26,16 +27,40 @@ fewer-spec =
     -- loop-holds
     (λ c. let a = c .before .before .args in sum-begin (a .b) (a .s) (a .first) (a .k) _ (omega arith) (c .opening .ensures .0) (c .opening .ensures .1))
     -- add-loop
+    (λ c. search needs)
+    -- sub-q
     (λ c. omega arith)
-    -- next-term-requires
-    (λ c κs. let S = c .before .loop .inv in (omega arith, omega arith, omega arith, omega arith, omega arith, S .is-term))
-    -- add-sum
-    (λ c. omega arith)
+    -- mul-q
+    (λ c.
+    let s = c .before .loop in
+    let a = c .before .before .before .before .args in
+    omega (arith, term-room (a .b) (a .s) (s .j) (s .term) (s .inv .is-term) (omega arith) (omega arith)))
+    -- add-q
+    (λ c. search needs)
+    -- div-q
+    (λ c. search needs)
     -- returns-2
+    (λ c.
+    let s = c .before .before .loop in
+    let a = c .before .before .before .before .before .args in
+    let far = term-far (a .b) (a .s) (s .j) (s .term) (s .inv .is-term) _ (omega arith) refl (omega arith) (omega arith) in
+    omega (arith, sum-over (a .b) (a .s) (a .first) (a .k) (s .term) (s .sum) (s .j) (s .inv) (omega arith) (omega arith)))
+    -- mul-term
+    (λ c.
+    let s = c .before .before .loop in
+    let a = c .before .before .before .before .before .args in
+    omega (arith, small-product (s .term * (a .s - s .j) / (s .j + 1)) (a .b) (omega arith) (omega arith)))
+    -- add-sum
+    (λ c.
+    let s = c .before .before .loop in
+    let a = c .before .before .before .before .before .args in
+    omega (arith, small-product (s .term * (a .s - s .j) / (s .j + 1)) (a .b) (omega arith) (omega arith)))
+    -- returns-3
     (λ c.
     let s = c .before .before .before .loop in
     let a = c .before .before .before .before .before .before .args in
-    omega (arith, sum-over (a .b) (a .s) (a .first) (a .k) (s .term) (s .sum) (s .j) _ (s .inv) (c .before .next-term .ensures) (c .before .before .loop-test .taken) (c .if2 .taken)))
+    let term = term-next (a .b) (a .s) (s .j) (s .term) (s .inv .is-term) _ (omega arith) refl in
+    omega (arith, sum-over (a .b) (a .s) (a .first) (a .k) (s .term) (s .sum) (s .j) (s .inv) (omega arith) (omega arith)))
     -- add-j
     (λ c. omega arith)
     -- loop-less
@@ -44,8 +69,9 @@ fewer-spec =
     (λ c.
     let s = c .before .before .before .loop in
     let a = c .before .before .before .before .before .before .args in
-    sum-turn (a .b) (a .s) (a .first) (a .k) (s .term) (s .sum) (s .j) _ (s .inv) (c .before .next-term .ensures) (c .before .before .loop-test .taken) (omega arith))
-    -- returns-3
+    let term = term-next (a .b) (a .s) (s .j) (s .term) (s .inv .is-term) _ (omega arith) refl in
+    sum-turn (a .b) (a .s) (a .first) (a .k) (s .term) (s .sum) (s .j) (s .inv) (omega arith) _ term (omega arith))
+    -- returns-4
     (λ c.
     let s = c .before .loop in
     let a = c .before .before .before .before .args in

@@ -1,10 +1,9 @@
 -- `counting::next_term` meets its contract. Assumes nothing.
 use mathlib.Core.Path.{refl}
-use Prim.Native.Nat.{_+_, _-_, _*_, _/_, _^_}
-use native.Mathlib.Nat.{mul-le-mul}
+use Prim.Native.Nat.{_+_, _-_, _*_, _/_}
 use native.Mathlib.Omega.{arith}
 use borrow.Author.Needs.{needs}
-use Rattle.counting.proofs.Laws.{term-room, term-next, term-far}
+use Rattle.counting.proofs.Laws.{small-product, term-room, term-next, term-far}
 use Rattle.counting.proofs.next_term.Statement.{statement}
 use Rattle.counting.proofs.next_term.Tie as tie
 
@@ -23,11 +22,11 @@ next-term-spec =
     -- returns
     (λ c.
     let s = c .before in
-    omega (arith, term-far (s .args .b) (s .args .s) (s .args .j) (s .args .term) (s .pre .5) _ (omega arith) refl (omega arith) (c .if1 .taken)))
+    omega (arith, term-far (s .args .b) (s .args .s) (s .args .j) (s .args .term) (s .pre .5) _ (omega arith) refl (omega arith) (omega arith)))
     -- mul-clip
     (λ c.
     let a = c .before .args in
-    omega (arith, mul-le-mul {n₁ = a .term * (a .s - a .j) / (a .j + 1)} {m₁ = a .b} {n₂ = 2 ^ 56} {m₂ = 15} (omega arith) (omega arith)))
+    omega (arith, small-product (a .term * (a .s - a .j) / (a .j + 1)) (a .b) (omega arith) (omega arith)))
     -- clip-requires
     (λ c κs. search needs)
     -- returns-2

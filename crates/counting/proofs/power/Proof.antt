@@ -1,11 +1,11 @@
 -- `counting::power` meets its contract. Assumes nothing.
 use mathlib.Core.Path.{_≡_, sym}
 use Prim.Native.Nat.{_≤_, _<_, _+_, _-_, _^_}
-use native.Mathlib.Nat.{pow-zero, le-antisymm, mul-le-mul, pow-le-pow-right}
+use native.Mathlib.Nat.{pow-zero, le-antisymm, pow-le-pow-right}
 use native.Mathlib.Omega.{arith}
 use borrow.Author.Needs.{needs}
 use Rattle.counting.specs.Cap.{cap}
-use Rattle.counting.proofs.Laws.{power-more}
+use Rattle.counting.proofs.Laws.{small-product, power-more}
 use Rattle.counting.proofs.power.Statement.{statement}
 use Rattle.counting.proofs.power.Tie as tie
 
@@ -27,7 +27,7 @@ power-spec =
     (λ c.
     let s = c .before .loop in
     let a = c .before .before .args in
-    omega (arith, mul-le-mul {n₁ = s .r} {m₁ = a .b} {n₂ = 2 ^ 56} {m₂ = 15} (omega arith) (omega arith)))
+    omega (arith, small-product (s .r) (a .b) (omega arith) (omega arith)))
     -- returns
     (λ c.
     let s = c .before .before .loop in

@@ -1,0 +1,20 @@
+/* The calls of gorvlime.h in plain C, with the same answers. bench/bench.c measures the archive by them. */
+#ifndef PLAIN_H
+#define PLAIN_H
+
+#include "gorvlime.h"
+
+struct gorvlime_counts plain_layout(uint64_t m, uint64_t t, uint64_t v, uint64_t g);
+
+struct gorvlime_reading plain_read(uint64_t m, uint64_t t, uint64_t v, const uint8_t *cells, size_t cells_count);
+
+struct gorvlime_writing plain_write(uint64_t m, uint64_t t, uint64_t v, uint8_t *cells, size_t cells_count, uint64_t number);
+
+struct gorvlime_exported plain_export(uint64_t serial, uint64_t m, uint64_t t, uint64_t v, const uint8_t *cells,
+                                      size_t cells_count, uint8_t *out, size_t out_count);
+
+struct gorvlime_found plain_step(const uint8_t *dump, size_t dump_count, size_t at);
+
+struct gorvlime_walked plain_walk(const uint8_t *dump, size_t dump_count, size_t at, uint64_t *rows, size_t rows_count);
+
+#endif

@@ -1,0 +1,25 @@
+/* What the dump calls of plain_dump.c use of the field calls in plain.c. */
+#ifndef PLAIN_FIELD_H
+#define PLAIN_FIELD_H
+
+#include "plain.h"
+
+enum { MOST_GENERATIONS = 16, MOST_GROUPS = 256 };
+
+/*
+ * What m, t and v come to. Out of bounds, refusal is 1 and the counts mean nothing. In bounds there is always room in 256
+ * groups: the first count is at most 194.
+ */
+struct field {
+    uint64_t refusal, m, t, v;
+    unsigned h[MOST_GENERATIONS];
+};
+
+void plain_lay_out(struct field *f, uint64_t m, uint64_t t, uint64_t v);
+
+/* 0, the field's own refusal, or 3 where the byte count is wrong or a left-over bit is 1. */
+uint64_t plain_misfit(const struct field *f, const uint8_t *cells, size_t count);
+
+struct gorvlime_reading plain_read_cells(const struct field *f, const uint8_t *cells, size_t count);
+
+#endif

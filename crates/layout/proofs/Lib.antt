@@ -1,0 +1,5 @@
+pub mod Search
+pub mod Tail
+pub mod Reply
+pub mod Demand
+pub mod Unique

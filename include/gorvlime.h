@@ -1,0 +1,153 @@
+/*
+ * Gorvlime: numbers kept in write-once cells by the position modulation code of Wu and Jiang.
+ *
+ * A wit is one write-once cell: it leaves the factory as 0, can be turned to 1, and never goes back. A field is a run of
+ * wits that holds one number and can still be given a new one t times. Three numbers say what a field is like:
+ *
+ *     m   wits in a group       2 to 4
+ *     t   generations           2 to 16       how often the field can be written
+ *     v   range                 2 to 2^56     the numbers are 0 to v - 1
+ *
+ * Ask gorvlime_layout once how large the field is, keep that many bytes of cells, all zeros at first, and hand them to
+ * gorvlime_write and gorvlime_read. gorvlime_export makes a record of a field, records one after the other are a dump, and
+ * gorvlime_step and gorvlime_walk list a dump. examples/board.c shows all of the board's side on one page.
+ *
+ * For every call:
+ * - `refusal` is 0 when the call was accepted. When it is not, all other numbers of the answer are 0 (a walk's are told
+ *   below) and nothing was stored in lent memory.
+ * - Lend no null pointer, not even with a count of 0, and no output that overlaps what is read. Not a byte more is read or
+ *   stored than is lent.
+ * - There is no state, no heap and no lock: calls may run at once on different memory, and in an interrupt.
+ * - The archive libgorvlime.a is for 64-bit x86 and its System V calling convention.
+ */
+#ifndef GORVLIME_H
+#define GORVLIME_H
+
+#include <stddef.h>
+#include <stdint.h>
+
+#ifdef __cplusplus
+extern "C" {
+#endif
+
+/* Why a call was refused. The tests are made in the order of this list, and the first that holds is the answer. */
+enum gorvlime_refusal {
+    GORVLIME_ACCEPTED = 0,      /* from                  when                                               */
+    GORVLIME_SERIAL = 10,       /* export                the serial is above 2^63 - 1                       */
+    GORVLIME_BOUNDS = 1,        /* all with m, t, v      m, t, v or g is outside its bounds                 */
+    GORVLIME_NO_ROOM = 2,       /* all with m, t, v      the field needs more than g groups                 */
+    GORVLIME_CELLS = 3,         /* read, write, export   wrong count of bytes, or a left-over bit is 1      */
+    GORVLIME_NUMBER = 6,        /* write                 the number is v or more                            */
+    GORVLIME_NO_READING = 4,    /* read, write           the cells have no reading: no writes leave them so */
+    GORVLIME_SPENT = 5,         /* write                 all t generations are written                      */
+    GORVLIME_OUTPUT = 9,        /* export                the output is shorter than the record              */
+    GORVLIME_DUMP = 8,          /* step, walk            the dump has more than 65,536 bytes                */
+    GORVLIME_MALFORMED = 7      /* step, walk            no whole record stands at the offset               */
+};
+
+/*
+ * How large a field is.
+ *
+ * Takes m, t, v and g, the groups that there is room for, 0 to 256. Answers the counts h_1 > h_2 > .. > h_t in h[0] to
+ * h[t - 1], zeros behind: generation i uses h_i groups, and no smaller counts would do. The field takes m * h[0] wits, which
+ * is (m * h[0] + 7) / 8 bytes of cells, never more than 64. Only the layout asks about g: the other calls work with g = 256,
+ * where every field has room.
+ * Refusals: 1, 2.
+ */
+struct gorvlime_counts { uint64_t refusal; uint64_t h[16]; };
+
+struct gorvlime_counts gorvlime_layout(uint64_t m, uint64_t t, uint64_t v, uint64_t g);
+
+/*
+ * The number in a field.
+ *
+ * Takes the field's m, t, v and its cells, exactly as many bytes as the layout says. Wit w of the field is bit
+ * 7 - (w mod 8) of byte w / 8, bit 7 being the high one; bits behind the last wit are 0. Answers the generation of the last
+ * write (1 to t), the number (0 to v - 1), and how many writes are left. Blank cells read as generation 1, number 0, with t
+ * writes left.
+ * Refusals: 1, 2, 3, 4.
+ */
+struct gorvlime_reading { uint64_t refusal, generation, number, left; };
+
+struct gorvlime_reading gorvlime_read(uint64_t m, uint64_t t, uint64_t v, const uint8_t *cells, size_t cells_count);
+
+/*
+ * A new number in a field.
+ *
+ * Takes the field's m, t, v, its cells and the number, 0 to v - 1, and turns wits in the cells from 0 to 1, never back.
+ * Answers the generation just written and how many wits were turned. Writing 0 on blank cells turns none and leaves them
+ * blank; every other write uses one of the t up.
+ * Refusals: 1, 2, 3, 6, 4, 5.
+ */
+struct gorvlime_writing { uint64_t refusal, generation, turned; };
+
+struct gorvlime_writing gorvlime_write(uint64_t m, uint64_t t, uint64_t v, uint8_t *cells, size_t cells_count,
+                                       uint64_t number);
+
+/*
+ * A record of a field, for a dump.
+ *
+ * Takes a serial of your choice (0 to 2^63 - 1), the field's m, t, v and cells, and an output. Stores the record at the front
+ * of the output, leaves the bytes behind it as they are, and answers the record's length, at most 85 bytes. Cells that have
+ * no reading are exported too.
+ * A record is serial, m, t, v, the count of cell bytes, then these bytes. Each number is groups of seven bits, lowest first,
+ * the top bit set on all but the last.
+ * Refusals: 10, 1, 2, 3, 9.
+ */
+struct gorvlime_exported { uint64_t refusal, length; };
+
+struct gorvlime_exported gorvlime_export(uint64_t serial, uint64_t m, uint64_t t, uint64_t v, const uint8_t *cells,
+                                         size_t cells_count, uint8_t *out, size_t out_count);
+
+/*
+ * One record of a dump.
+ *
+ * Takes a dump of at most 65,536 bytes and the offset of a record in it: 0, then the `next` of the step before. An offset at
+ * or past the dump's end is the end.
+ *
+ *     a record    refusal 0, records 1; its serial, m, t, v; its cells are the dump's bytes start to start + length - 1;
+ *                 next, where the next step starts; then what gorvlime_read says of the cells: `refused` is 0 and
+ *                 generation, number, left follow, or it is the record's own refusal 1 to 4 and they are 0
+ *     the end     refusal 0, records 0
+ *     refused     refusal 8, or 7 with the offset of the record's first byte; records 0
+ *
+ * What is not named for a case is 0 in it; `offset` is 0 unless the refusal is 7.
+ * A record's own refusal does not end a walk, refusal 7 does: nothing behind a malformed record can be trusted.
+ */
+struct gorvlime_found {
+    uint64_t refusal, offset, records, serial, m, t, v, start, length, next, refused, generation, number, left;
+};
+
+struct gorvlime_found gorvlime_step(const uint8_t *dump, size_t dump_count, size_t at);
+
+/*
+ * Many records of a dump: the same as steps from `at` on, and quicker where records repeat m, t and v.
+ *
+ * Takes the dump, the offset to start at, and room for rows_count numbers; a record fills a row of GORVLIME_ROW of them, in
+ * the order serial, m, t, v, start, length, refused, generation, number, left. Goes on while a whole row is free. Numbers
+ * behind the filled rows stay as they are.
+ *
+ *     rows      rows that were filled, also where the walk was refused with 7
+ *     next      the offset of the first record that no row was filled for: where to go on, or where the walk ended
+ *     ended     1 when a step found the dump's end; 0 when the rows were used up first, and the next call will tell
+ *     refusal   8, and all else is 0; or 7, and offset and next are the malformed record's first byte
+ *
+ * A whole listing:
+ *
+ *     do {
+ *         w = gorvlime_walk(dump, dump_count, at, rows, sizeof rows / sizeof rows[0]);
+ *         ..                                         use w.rows rows
+ *         at = w.next;
+ *     } while (w.refusal == 0 && w.ended == 0);      rows has at least GORVLIME_ROW numbers
+ */
+#define GORVLIME_ROW 10
+
+struct gorvlime_walked { uint64_t refusal, offset, rows, next, ended; };
+
+struct gorvlime_walked gorvlime_walk(const uint8_t *dump, size_t dump_count, size_t at, uint64_t *rows, size_t rows_count);
+
+#ifdef __cplusplus
+}
+#endif
+
+#endif

@@ -1,0 +1,37 @@
+/* Checks that are counted. A failed one prints a line that names the call. */
+#ifndef CHECK_H
+#define CHECK_H
+
+#include <stddef.h>
+#include <stdint.h>
+
+/* Lent bytes stand between bytes of this value, which have to stay. */
+enum { UNTOUCHED = 0xa5, MARGIN = 16, MOST_LENT = 128 };
+
+struct lent {
+    size_t count;
+    uint8_t all[MARGIN + MOST_LENT + MARGIN];
+};
+
+#define LENT(lent) ((lent).all + MARGIN), (lent).count
+
+/* Names the call that the checks after it are about, as printf does. */
+void calling(const char *format, ...) __attribute__((format(printf, 1, 2)));
+
+void same(const char *what, uint64_t got, uint64_t expected);
+
+/* Bytes as hex digits, with spaces for the eye. */
+struct lent lend(const char *hex);
+
+/* `count` bytes that are UNTOUCHED themselves. */
+struct lent lend_room(size_t count);
+
+/* The lent bytes are these now, the ones behind them up to the lent count are UNTOUCHED, and so are the margins. */
+void holds(const struct lent *lent, const char *hex);
+
+/* Prints the last line; the program's exit status. */
+int done(void);
+
+void check_dump_calls(void);
+
+#endif
