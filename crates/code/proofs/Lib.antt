@@ -22,3 +22,5 @@ pub mod Writes
 pub mod LayoutReply
 pub mod Places
 pub mod Sums
+pub mod First
+pub mod Parts

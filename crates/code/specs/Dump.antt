@@ -1,7 +1,7 @@
 -- Document 01, "Dumps": numbers in groups of seven bits, records, the walk, export and the text of `fieldlist`.
 use Prim.Native.Nat.{ℕ, zero, suc, _+_, _*_, _-_, _^_, _/_, _%_}
 use Prim.Native.Char.{code}
-use Prim.Native.String.{String}
+use Prim.Native.String.{String, [] as nothing, _∷_ as _before_}
 use mathlib.Core.Bool.{cond}
 use mathlib.Core.List.{List, [], _∷_, _++_}
 use lib.Dec.{leb, ltb, eqb}

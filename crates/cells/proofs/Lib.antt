@@ -1,0 +1,4 @@
+pub mod Held
+pub mod Turns
+pub mod Walks
+pub mod Writing
