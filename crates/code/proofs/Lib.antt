@@ -24,3 +24,7 @@ pub mod Places
 pub mod Sums
 pub mod First
 pub mod Parts
+pub mod Digits
+pub mod Numerals
+pub mod Records
+pub mod Walk

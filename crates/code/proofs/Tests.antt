@@ -45,6 +45,10 @@ least-found test from fuel n l h p = elim (le-or-lt (from + fuel) (least test fr
   | inr k ↦ least-passes test from fuel k
 ]
 
+-- two constructors are never equal, which `cc` tells as 0 ≡ 1
+pub clash : {A : Type 0} → _≡_ {A = ℕ} 0 1 → A
+clash e = absurd (omega arith)
+
 pub both-true : (a b : Bool) → (a && b) ≡ true → (a ≡ true) × (b ≡ true)
 both-true true b h = (refl, h)
 both-true false b h = (cc, cc)

@@ -1,0 +1,54 @@
+-- Laws of stores one after the other.
+use mathlib.Core.Path.{_≡_, refl, _∙_}
+use mathlib.Core.List.{List, [], _∷_, _++_, append-assoc}
+use Prim.Native.Nat.{ℕ, suc, _+_, _≤_}
+use native.Mathlib.Omega.{arith}
+use native.Mathlib.Nat.{add-zero, add-suc, suc-add}
+use native.Mathlib.Numerals.{add-one}
+use lib.ListN.{length, take, drop, set, length-set, length-append}
+use lib.Seq.{sets, length-sets, sets-eq, set-comm}
+use Rattle.storing.specs.Put.{Put}
+
+sets-append : (b : List ℕ) (at : ℕ) (ys zs : List ℕ) → sets b at (ys ++ zs) ≡ sets (sets b at ys) (at + length ys) zs
+sets-append b at [] zs = rw add-zero
+sets-append b at (y ∷ ys) zs = sets-append (set b at y) (suc at) ys zs ∙ rw (add-suc, suc-add)
+
+pub put-none : (b : List ℕ) (at : ℕ) → Put b b at [] at
+put-none b at = record { stored = refl; ends = omega arith }
+
+-- one put after another
+pub put-then : {b c d : List ℕ} {at n k : ℕ} {ys zs : List ℕ} → Put b c at ys n → Put c d n zs k → Put b d at (ys ++ zs) k
+put-then {b} {c} {d} {at} {n} {k} {ys} {zs} p q = record { stored = cc (sets-append b at ys zs); ends = omega (arith, length-append ys zs) }
+
+pub put-length : {b c : List ℕ} {at n : ℕ} {ys : List ℕ} → Put b c at ys n → length c ≡ length b
+put-length {b} {c} {at} {n} {ys} p = rw (p .stored) (length-sets b at ys)
+
+-- what a put leaves, where there is room: what stood before the place, what is stored, what stood behind
+pub put-pastes : {b c : List ℕ} {at n : ℕ} {ys : List ℕ} → Put b c at ys n → n ≤ length b → c ≡ take at b ++ (ys ++ drop n b)
+put-pastes {b} {c} {at} {n} {ys} p h = rw (p .stored, p .ends) (sets-eq ys b at (omega arith) ∙ append-assoc (take at b) ys (drop (at + length ys) b))
+
+-- a loop that stores `all` from place `from` on: `left` of it is still to be stored, from place `at` up to place `end`
+pub record Storing (before : List ℕ) (from : ℕ) (all after : List ℕ) (at : ℕ) (left : List ℕ) (end : ℕ) : Type 0 where
+  pub same : length after ≡ length before
+  pub due : sets after at left ≡ sets before from all
+  pub ends : end ≡ at + length left
+
+pub storing-begin : (b : List ℕ) (at : ℕ) (ys : List ℕ) → Storing b at ys b at ys (at + length ys)
+storing-begin b at ys = record { same = refl; due = refl; ends = refl }
+
+pub storing-first : {b c all ys : List ℕ} {from at y end : ℕ} → Storing b from all c at (y ∷ ys) end → Storing b from all (set c at y) (at + 1) ys end
+storing-first {c} {at} {y} s = record { same = length-set c at y ∙ s .same; due = rw add-one (s .due); ends = omega (arith, s .ends) }
+
+sets-last : (b : List ℕ) (at : ℕ) (ys : List ℕ) (y : ℕ) → sets b at (ys ++ (y ∷ [])) ≡ sets (set b (at + length ys) y) at ys
+sets-last b at [] y = rw add-zero
+sets-last b at (x ∷ ys) y =
+    let e : at + suc (length ys) ≡ suc at + length ys = omega arith in
+    sets-last (set b at x) (suc at) ys y ∙ rw (e, set-comm b (suc at + length ys) at y x (λ q. absurd (omega arith)))
+
+pub storing-last : {b c all : List ℕ} {from at end : ℕ} (ys : List ℕ) (y : ℕ) → Storing b from all c at (ys ++ (y ∷ [])) (end + 1) → Storing b from all (set c end y) at ys end
+storing-last {c} {at} {end} ys y s =
+    let e : end ≡ at + length ys = omega (arith, s .ends, length-append ys (y ∷ [])) in
+    record { same = length-set c end y ∙ s .same; due = rw (e, ← sets-last c at ys y) (s .due); ends = e }
+
+pub storing-end : {b c all : List ℕ} {from at : ℕ} → Storing b from all c at [] (from + length all) → Put b c from all at
+storing-end s = record { stored = s .due; ends = omega (arith, s .ends) }

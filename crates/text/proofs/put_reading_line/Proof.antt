@@ -1,0 +1,39 @@
+-- `text::put_reading_line` meets its contract. Assumes nothing.
+use mathlib.Core.Path.{refl}
+use mathlib.Core.List.{append-assoc}
+use native.Mathlib.Omega.{arith}
+use borrow.Author.Needs.{needs}
+use Rattle.code.specs.Dump.{ascii, recordLine}
+use Rattle.text.proofs.Laws.{exactly, within-then}
+use Rattle.text.proofs.put_reading_line.Statement.{statement}
+use Rattle.text.proofs.put_reading_line.Tie as tie
+
+pub put-reading-line-spec : {M : Type 1} → statement M
+unfolding ascii recordLine
+put-reading-line-spec =
+    tie.close
+    (tie.spec
+    -- put-decimal-requires
+    (λ c κs. omega arith)
+    -- slice-aggregate-put-labelled
+    (λ c. refl)
+    -- put-labelled-requires
+    (λ c κs. omega arith)
+    -- slice-aggregate-put-labelled-2
+    (λ c. refl)
+    -- put-labelled-requires-2
+    (λ c κs. omega arith)
+    -- slice-aggregate-put-labelled-3
+    (λ c. refl)
+    -- put-labelled-requires-3
+    (λ c κs. omega arith)
+    -- put-byte-requires
+    (λ c κs. omega arith)
+    -- same-length
+    (λ c. search needs)
+    -- returns
+    (λ c.
+    simp append-assoc at
+    (within-then
+    (within-then (within-then (within-then (c .before .before .before .before .before .before .before .before .before .before .before .before .before .before .before .before .before .before .before .before .before .put-decimal .ensures) (c .before .before .before .before .before .before .before .before .before .before .before .before .before .before .before .before .put-labelled .ensures)) (c .before .before .before .before .before .before .before .before .before .before .before .put-labelled2 .ensures)) (c .before .before .before .before .before .before .put-labelled3 .ensures))
+    (exactly (c .before .before .put-byte .ensures)))))

@@ -1,0 +1,31 @@
+-- `text::put_refusal_line` meets its contract. Assumes nothing.
+use mathlib.Core.Path.{refl, _≡_}
+use mathlib.Core.List.{append-assoc}
+use native.Mathlib.Omega.{arith}
+use borrow.Author.Needs.{needs}
+use borrow.Author.Tests.{ne-eqb}
+use Rattle.code.specs.Dump.{ascii, recordLine}
+use Rattle.text.proofs.Laws.{exactly, within-then}
+use Rattle.text.proofs.put_refusal_line.Statement.{statement}
+use Rattle.text.proofs.put_refusal_line.Tie as tie
+
+pub put-refusal-line-spec : {M : Type 1} → statement M
+unfolding ascii recordLine
+put-refusal-line-spec =
+    tie.close
+    (tie.spec
+    -- put-decimal-requires
+    (λ c κs. omega arith)
+    -- slice-aggregate-put-labelled
+    (λ c. refl)
+    -- put-labelled-requires
+    (λ c κs. omega arith)
+    -- put-byte-requires
+    (λ c κs. omega arith)
+    -- same-length
+    (λ c. search needs)
+    -- returns
+    (λ c.
+    let p = within-then (within-then (c .before .before .before .before .before .before .before .before .before .before .before .put-decimal .ensures) (c .before .before .before .before .before .before .put-labelled .ensures)) (exactly (c .before .before .put-byte .ensures)) in
+    let refused : c .before .before .before .before .before .before .before .before .before .before .before .before .before .before .args .refusal ≡ 0 → ⊥ = λ e. absurd (omega (arith, c .before .before .before .before .before .before .before .before .before .before .before .before .before .before .pre .0)) in
+    rw (ne-eqb (c .before .before .before .before .before .before .before .before .before .before .before .before .before .before .args .refusal) 0 refused) (simp append-assoc at p)))

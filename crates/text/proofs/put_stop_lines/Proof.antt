@@ -1,0 +1,27 @@
+-- `text::put_stop_lines` meets its contract. Assumes nothing.
+use mathlib.Core.Path.{refl}
+use mathlib.Core.List.{append-assoc}
+use native.Mathlib.Omega.{arith}
+use borrow.Author.Needs.{needs}
+use Rattle.code.specs.Dump.{ascii, spelled, stopLines}
+use Rattle.text.proofs.Laws.{exactly, within-then}
+use Rattle.text.proofs.put_stop_lines.Statement.{statement}
+use Rattle.text.proofs.put_stop_lines.Tie as tie
+
+pub put-stop-lines-spec : {M : Type 1} → statement M
+unfolding ascii spelled stopLines
+put-stop-lines-spec =
+    tie.close
+    (tie.spec
+    -- slice-aggregate-put-labelled
+    (λ c. refl)
+    -- put-labelled-requires
+    (λ c κs. omega arith)
+    -- put-byte-requires
+    (λ c κs. omega arith)
+    -- put-last-line-requires
+    (λ c κs. omega arith)
+    -- same-length
+    (λ c. search needs)
+    -- returns
+    (λ c. simp append-assoc at (within-then (within-then (c .before .before .before .before .before .before .before .before .before .before .put-labelled .ensures) (exactly (c .before .before .before .before .before .before .put-byte .ensures))) (c .before .before .put-last-line .ensures))))
