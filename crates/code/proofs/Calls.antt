@@ -81,7 +81,7 @@ module _ (e : ℕ) (hs : List ℕ) (t v : ℕ) (y : Layout e 0 hs (replicate t v
   blank-read gs l z = blank-reads e hs (replicate t v) gs y l z (omega (arith, y .two, getD-replicate t 0 v 0 (omega (arith, y .two))))
 
   -- the generation read is at most t
-  read-most : (gs : List ℕ) (i x : ℕ) → read e 0 hs (replicate t v) gs ≡ reads i x → i ≤ t
+  pub read-most : (gs : List ℕ) (i x : ℕ) → read e 0 hs (replicate t v) gs ≡ reads i x → i ≤ t
   read-most gs i x r = omega (arith, read-past e 0 hs (replicate t v) gs i x r, below hs (zeros gs) (omega (arith, y .two)))
     where
       below : (hs : List ℕ) (z : ℕ) → 0 < length hs → past hs z < length hs

@@ -1,0 +1,84 @@
+-- What the functions of this crate go by: the granted counts, and the generation that a zero count points to.
+use mathlib.Core.Path.{_≡_, refl, sym, _∙_}
+use mathlib.Core.List.{List, _∷_}
+use Prim.Native.Nat.{ℕ, zero, suc, _+_, _-_, _^_, _≤_, _<_}
+use native.Mathlib.Omega.{arith}
+use native.Mathlib.Numerals.{add-one}
+use native.Mathlib.Nat.{zero-add, add-zero}
+use lib.ListN.{length, getD, drop, replicate, drop-of-length-le, List·getD-eq-default}
+use lib.Seq.{drop-cons, getD-drop}
+use borrow.Author.Tests.{le-leb, lt-leb}
+use mathlib.Core.Logic.{_≢_}
+use Rattle.code.specs.Field.{past, base, start}
+use Rattle.code.specs.Calls.{filled, granted, layoutRefusal, layoutReply}
+use Rattle.code.proofs.Conditions.{head-most}
+use Rattle.code.proofs.Demand.{within, fits, is-layout}
+use Rattle.code.proofs.LayoutReply.{granted-length, reply-number, reply-counts, reply-count}
+use Rattle.field.specs.Answers.{Granted}
+
+-- n generations are passed, and what is left of the list says how many more
+pub record Passing (hs : List ℕ) (z n : ℕ) : Type 0 where
+  pub below : n < length hs
+  pub total : past hs z ≡ n + past (drop n hs) z
+
+pub passing-none : (hs : List ℕ) (z : ℕ) → 0 < length hs → Passing hs z 0
+passing-none hs z l = record { below = l; total = sym (zero-add (past hs z)) }
+
+module _ {hs : List ℕ} {z n : ℕ} (P : Passing hs z n) where
+  here : suc n < length hs → getD (drop (suc n) hs) 0 0 ≡ getD hs (suc n) 0
+  here l = getD-drop (suc n) hs 0 0 ∙ rw (add-zero (suc n))
+
+  pub passing-here : suc n < length hs → getD hs (suc n) 0 ≤ z → past hs z ≡ n
+  unfolding past
+  passing-here l g = P .total ∙ rw (drop-cons hs n 0 (P .below), here l, le-leb (getD hs (suc n) 0) z g) (add-zero n)
+
+  pub passing-more : suc n < length hs → z < getD hs (suc n) 0 → Passing hs z (n + 1)
+  unfolding past
+  passing-more l g = record { below = omega arith; total = P .total ∙ rw (add-one n, drop-cons hs n 0 (P .below), here l, lt-leb (getD hs (suc n) 0) z g) (omega arith) }
+
+  pub passing-last : length hs ≤ suc n → past hs z ≡ n
+  unfolding past
+  passing-last l = P .total ∙ rw (drop-cons hs n 0 (P .below), drop-of-length-le hs l, le-leb 0 z (omega arith)) (add-zero n)
+
+-- a layout's reply that is no refusal holds the granted counts
+pub granted-is : (m t v k : ℕ) (h : List ℕ) → k ∷ h ≡ filled 17 (layoutReply m t v 256) → k ≡ 0 → Granted m t v h
+granted-is m t v k h q z =
+    let ok : layoutRefusal m t v 256 ≡ 0 = sym (reply-number m t v 256 k h q) ∙ z in
+    let w = within m t v ok in
+    let y = is-layout m t v ok in
+    let each = reply-count m t v 256 k h q z in
+    record {
+      ok = ok;
+      m-low = w .m-low;
+      m-high = w .m-high;
+      t-low = w .t-low;
+      t-high = w .t-high;
+      v-high = w .v-high;
+      list = reply-counts m t v 256 k h q z;
+      many = granted-length m t v 256;
+      each = each;
+      small = λ n. omega (arith, each n, fits m t v ok, head-most (2 ^ m - 1) (2 ^ m - 1) 0 (granted m t v 256) (replicate t v) n (y .holds));
+    }
+
+-- past the sixteenth place there is no count
+pub none-behind : (m t v n : ℕ) (h : List ℕ) → Granted m t v h → t ≤ n → getD (granted m t v 256) n 0 ≡ 0
+none-behind m t v n h G l = List·getD-eq-default (granted m t v 256) 0 {n = n} (omega (arith, G .many))
+
+-- the first place, and a later one
+pub base-first : (e n : ℕ) → n ≡ 0 → e ≡ base e n
+unfolding base
+base-first e n z = rw z
+
+pub base-later : (e n : ℕ) → n ≢ 0 → e - 1 ≡ base e n
+unfolding base
+base-later e zero d = absurd (d refl)
+base-later e (suc n) d = refl
+
+pub start-first : (n : ℕ) → n ≡ 0 → 0 ≡ start 0 n
+unfolding start
+start-first n z = rw z
+
+pub start-later : (n : ℕ) → n ≢ 0 → 1 ≡ start 0 n
+unfolding start
+start-later zero d = absurd (d refl)
+start-later (suc n) d = refl

@@ -1,0 +1,5 @@
+pub mod Laws
+pub mod Judging
+pub mod Replying
+pub mod Drawing
+pub mod Rewriting
