@@ -15,6 +15,7 @@ pub mod layout;
 pub mod listing;
 pub mod protocol;
 pub mod refusal;
+pub mod sample;
 pub mod stream;
 pub mod values;
 pub mod whole;

@@ -5,6 +5,7 @@ use second::comparing::{self, Comparison};
 use second::dump::LONGEST_DUMP;
 use second::layout::Layouts;
 use second::listing;
+use second::sample;
 use second::stream;
 use second::values;
 use std::env;
@@ -18,6 +19,7 @@ const USAGE: &str = "usage:
   second compare STREAM ANSWERS    compare answers to a stream with those given here
   second fieldlist                 list the dump on standard input
   second values                    print the paper's figures as the conditions give them
+  second sample                    make the sample dump
 ";
 
 enum Command {
@@ -26,6 +28,7 @@ enum Command {
     Compare { stream: String, answers: String },
     FieldList,
     Values,
+    Sample,
 }
 
 fn main() -> ExitCode {
@@ -60,6 +63,7 @@ fn command_of(words: &[&str]) -> Option<Command> {
         }),
         ["fieldlist"] => Some(Command::FieldList),
         ["values"] => Some(Command::Values),
+        ["sample"] => Some(Command::Sample),
         _ => None,
     }
 }
@@ -83,6 +87,16 @@ fn run(command: Command) -> io::Result<ExitCode> {
         }
         Command::Values => {
             printed.write_all(values::figures(&mut Layouts::default()).as_bytes())?;
+            ExitCode::SUCCESS
+        }
+        Command::Sample => {
+            let dump = sample::sample_dump(&mut Layouts::default()).map_err(|refusal| {
+                io::Error::new(
+                    io::ErrorKind::Other,
+                    format!("refusal {}", refusal.number()),
+                )
+            })?;
+            printed.write_all(&dump)?;
             ExitCode::SUCCESS
         }
     };
