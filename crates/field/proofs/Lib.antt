@@ -3,3 +3,5 @@ pub mod Judging
 pub mod Replying
 pub mod Drawing
 pub mod Rewriting
+pub mod Unique
+pub mod Demand

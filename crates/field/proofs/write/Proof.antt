@@ -26,7 +26,7 @@ write-spec =
     -- returns-3
     (λ c.
     let G = granted-is _ _ _ _ _ (c .before .before .before .before .before .before .lay-out .ensures) (c .before .before .before .before .before .if1 .left) in
-    writes-6 G _ (c .before .before .before .before .before .before .before .before .args .cells .now) (sym (c .before .before .is-sound .ensures) ∙ not-false _ (c .before .if2 .left)) (c .if3 .taken))
+    writes-6 G _ (c .before .before .before .before .before .before .before .before .args .cells .now) (sym (c .before .before .is-sound .ensures) ∙ not-false _ (c .before .if2 .left)) (omega (arith, c .if3 .taken)))
     -- write-sound-requires
     (λ c κs.
     let G = granted-is _ _ _ _ _ (c .before .before .before .before .before .before .before .before .lay-out .ensures) (c .before .before .before .before .before .before .before .if1 .left) in
