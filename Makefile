@@ -7,4 +7,5 @@ demo:
 
 test:
 	@rt fmt --check
+	@cd second && cargo test --release --offline --quiet
 	@rt ci
