@@ -1,11 +1,30 @@
 # demo and test do all the set-up that a fresh machine needs.
-.PHONY: demo test
+.PHONY: demo test crosscheck bench
+CALLS = 200000
 
 demo:
-	@rt check lists
-	@tools/run lists
+	@rt check fieldlist
+	@tools/run fieldlist <samples/drives.dump
 
 test:
+	@tools/setup
 	@rt fmt --check
-	@cd second && cargo test --release --offline --quiet
+	@cd second && cargo test --release --offline --quiet && cargo build --release --offline --quiet
+	@rt check fieldlist gorvlime
+	@tests/run-listings
+	@rt staticlib gorvlime
+	@tests/run-calls
+	@tools/frames target/staticlib/libgorvlime.a --depth rank_from=37 --limit 4096 --limit gorvlime_layout=1024
+	@tests/crosscheck $(CALLS)
 	@rt ci
+
+crosscheck:
+	@tools/setup
+	@cd second && cargo build --release --offline --quiet
+	@rt staticlib gorvlime
+	@tests/crosscheck $(CALLS)
+
+bench:
+	@tools/setup
+	@rt staticlib gorvlime
+	@bench/run

@@ -28,3 +28,5 @@ pub mod Digits
 pub mod Numerals
 pub mod Records
 pub mod Walk
+pub mod Exporting
+pub mod Steps

@@ -13,13 +13,13 @@ use Rattle.code.specs.Run.{kept}
 use Rattle.code.specs.Calls.{readCells, storing, writeCells, refusal, answer, outside, misfit, granted, layoutRefusal, fieldRead, fieldWrite, unsound, unreadable, generation, readRefusal, readReply, writeRefusal, madeAt, writeReply, writeLeaves}
 
 -- the first two tests are the layout's
-refused-early : (a b : Bool) (k : ℕ) (tests : List (ℕ × Bool)) → refusal ((1, a) ∷ (2, b) ∷ []) ≡ suc k → refusal ((1, a) ∷ (2, b) ∷ tests) ≡ suc k
+pub refused-early : (a b : Bool) (k : ℕ) (tests : List (ℕ × Bool)) → refusal ((1, a) ∷ (2, b) ∷ []) ≡ suc k → refusal ((1, a) ∷ (2, b) ∷ tests) ≡ suc k
 unfolding refusal
 refused-early true b k tests h = h
 refused-early false true k tests h = h
 refused-early false false k tests h = absurd (omega arith)
 
-passed-early : (a b : Bool) (tests : List (ℕ × Bool)) → refusal ((1, a) ∷ (2, b) ∷ []) ≡ 0 → refusal ((1, a) ∷ (2, b) ∷ tests) ≡ refusal tests
+pub passed-early : (a b : Bool) (tests : List (ℕ × Bool)) → refusal ((1, a) ∷ (2, b) ∷ []) ≡ 0 → refusal ((1, a) ∷ (2, b) ∷ tests) ≡ refusal tests
 unfolding refusal
 passed-early true b tests h = absurd (omega arith)
 passed-early false true tests h = absurd (omega arith)

@@ -8,7 +8,7 @@ use native.Mathlib.Nat.{sub-zero}
 use lib.ListN.{length, getD, drop, length-drop}
 use borrow.Author.Tests.{lt-ltb, le-ltb, le-leb, lt-leb}
 use Rattle.code.specs.Lists.{Below}
-use Rattle.code.specs.Dump.{Numeral, malformed, numeral, readSevens, Numbers, cut, numbers, preceded, readNumbers, recordOf, Step, taken, ended, stopped, recordAt, step, walkFrom, walk}
+use Rattle.code.specs.Dump.{Numeral, malformed, numeral, readSevens, Numbers, cut, numbers, preceded, readNumbers, recordOf, Step, taken, ended, stopped, recordAt, step, walkFrom, walk, onward}
 use Rattle.code.proofs.Tests.{le-or-lt, clash}
 use Rattle.code.proofs.Numerals.{read-was}
 use Rattle.code.proofs.Records.{behind, numbers-one, numbers-cut, head, record-length, record-stands}
@@ -100,10 +100,7 @@ walk-fuel (suc f) (suc g) bytes at hf hg = go (step bytes at) refl (walk-fuel f 
     go ended e ih = cc (walk-ended f bytes at e, walk-ended g bytes at e)
     go (stopped k carried) e ih = cc (walk-stopped f bytes at k carried e, walk-stopped g bytes at k carried e)
 
--- the steps from a place on, with just enough fuel: the whole walk is the one from 0, and after a record it goes on behind it
-abbrev pub onward : List ℕ → ℕ → List Step
-onward bytes at = walkFrom (suc (length bytes - at)) bytes at
-
+-- the whole walk is the one from 0, and after a record it goes on behind it
 pub onward-start : (bytes : List ℕ) → walk bytes ≡ onward bytes 0
 unfolding walk
 onward-start bytes = rw sub-zero

@@ -6,7 +6,7 @@ use mathlib.Core.Bool.{cond}
 use mathlib.Core.List.{List, [], _∷_, _++_}
 use lib.Dec.{leb, ltb, eqb}
 use lib.ListN.{length, getD, take, drop}
-use Rattle.code.specs.Calls.{refusal, answer, outside, misfit, granted, unsound, readReply}
+use Rattle.code.specs.Calls.{refusal, answer, filled, outside, misfit, granted, unsound, readReply}
 
 -- "A number is groups of seven bits, lowest first, top bit set on all but the last", in at most so many bytes
 unfoldable pub sevens : ℕ → ℕ → List ℕ
@@ -101,6 +101,33 @@ walkFrom (suc fuel) bytes at = elim (step bytes at) [
 unfoldable pub walk : List ℕ → List Step
 walk bytes = walkFrom (suc (length bytes)) bytes 0
 
+-- the steps from a place on, with just enough fuel
+abbrev pub onward : List ℕ → ℕ → List Step
+onward bytes at = walkFrom (suc (length bytes - at)) bytes at
+
+-- the walk into lent rows: ten numbers for each record, which are serial, m, t, v, the start and count of its cells, and the reply to reading them, 0 where it lacks a number
+unfoldable pub rowsOf : List ℕ → List Step → List ℕ
+rowsOf bytes [] = []
+rowsOf bytes (taken serial m t v start count ∷ steps) = (serial ∷ m ∷ t ∷ v ∷ start ∷ count ∷ filled 4 (readReply m t v (take count (drop start bytes)))) ++ rowsOf bytes steps
+rowsOf bytes (ended ∷ steps) = []
+rowsOf bytes (stopped k carried ∷ steps) = []
+
+-- after so many rows: the refusal and its offset, the rows filled, where the next step would start, and 1 where the end was reached
+unfoldable pub closing : ℕ → ℕ → List Step → List ℕ
+closing at rows [] = 0 ∷ 0 ∷ rows ∷ at ∷ 0 ∷ []
+closing at rows (taken serial m t v start count ∷ steps) = closing (start + count) (suc rows) steps
+closing at rows (ended ∷ steps) = 0 ∷ 0 ∷ rows ∷ at ∷ 1 ∷ []
+closing at rows (stopped k carried ∷ steps) = k ∷ getD carried 0 0 ∷ rows ∷ at ∷ 0 ∷ []
+
+-- as many steps as whole rows fit; a dump that is too long is refused before the first
+unfoldable pub walkReply : List ℕ → ℕ → List ℕ → List ℕ
+walkReply bytes at rows = cond (ltb 65536 (length bytes)) (8 ∷ 0 ∷ 0 ∷ 0 ∷ 0 ∷ []) (closing at 0 (walkFrom (length rows / 10) bytes at))
+
+unfoldable pub walkLeaves : List ℕ → ℕ → List ℕ → List ℕ
+walkLeaves bytes at rows =
+    let made = rowsOf bytes (walkFrom (length rows / 10) bytes at) in
+    made ++ drop (length made) rows
+
 -- the bytes of a text, and a number in decimal
 unfoldable pub ascii : String → List ℕ
 ascii nothing = []
@@ -134,6 +161,10 @@ lines bytes count [] = []
 lines bytes count (taken serial m t v start n ∷ steps) = recordLine serial (readReply m t v (take n (drop start bytes))) ++ lines bytes (suc count) steps
 lines bytes count (ended ∷ steps) = lastLine count
 lines bytes count (stopped k carried ∷ steps) = stopLines count k carried
+
+-- the text from a place on, after so many records
+abbrev pub textFrom : List ℕ → ℕ → ℕ → List ℕ
+textFrom bytes at count = lines bytes count (onward bytes at)
 
 -- the text that `fieldlist` prints of a dump
 unfoldable pub listing : List ℕ → List ℕ

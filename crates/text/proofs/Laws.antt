@@ -1,6 +1,6 @@
 -- Laws of text stored piece by piece.
 use mathlib.Core.List.{List, _++_}
-use Prim.Native.Nat.{ℕ, _+_}
+use Prim.Native.Nat.{ℕ, _+_, _≤_}
 use native.Mathlib.Omega.{arith}
 use lib.ListN.{length}
 use Rattle.storing.specs.Put.{Put}
@@ -12,3 +12,6 @@ exactly p = record { put = p; few = omega (arith, p .ends) }
 
 pub within-then : {m k : ℕ} {b c d ys zs : List ℕ} {at n p : ℕ} → PutWithin m b c at ys n → PutWithin k c d n zs p → PutWithin (m + k) b d at (ys ++ zs) p
 within-then v w = record { put = put-then (v .put) (w .put); few = omega (arith, v .few, w .few) }
+
+pub wider : {m k : ℕ} {b c ys : List ℕ} {at n : ℕ} → m ≤ k → PutWithin m b c at ys n → PutWithin k b c at ys n
+wider h p = record { put = p .put; few = omega (arith, p .few) }

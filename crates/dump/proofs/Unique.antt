@@ -1,0 +1,79 @@
+-- The promises of `step_at`, `step_kept`, `export` and `walk` leave no choice: two answers that one of them allows are equal, and so is what they leave in the output.
+use Prim.Native.Nat.{ℕ}
+use mathlib.Core.Path.{_≡_, refl, sym, ap, _∙_}
+use mathlib.Core.List.{List}
+use native.Mathlib.Omega.{arith}
+use lib.ListN.{length}
+use Rattle.code.specs.Dump.{stepReply, exportReply, exportLeaves, walkReply, walkLeaves}
+use Rattle.code.proofs.Tests.{clash}
+use Rattle.field.proofs.Unique.{same-reading}
+use Rattle.dump.specs.Answers.{exportedOf, haltOf, stepOf, walkedOf}
+use Rattle.dump.specs.declared.Exported.{Exported}
+use Rattle.dump.specs.declared.Exported.the-variants.{Stored, Refused}
+use Rattle.dump.specs.declared.Halt.{Halt}
+use Rattle.dump.specs.declared.Halt.the-variants.{Malformed, Oversize}
+use Rattle.dump.specs.declared.Step.{Step}
+use Rattle.dump.specs.declared.Step.the-variants.{Record, End, Stop}
+use Rattle.dump.specs.declared.Walked.{Walked}
+
+same-halt : (h h′ : Halt) → haltOf h ≡ haltOf h′ → h ≡ h′
+same-halt (Malformed offset) (Malformed offset′) q =
+    let a : offset ≡ offset′ = cc in
+    rw a
+same-halt (Malformed offset) Oversize q = absurd (omega (arith, ap length q))
+same-halt Oversize (Malformed offset) q = absurd (omega (arith, ap length q))
+same-halt Oversize Oversize q = refl
+
+pub same-step : (r r′ : Step) → stepOf r ≡ stepOf r′ → r ≡ r′
+same-step (Record serial m t v start count outcome) (Record serial′ m′ t′ v′ start′ count′ outcome′) q =
+    let a : serial ≡ serial′ = cc in
+    let b : m ≡ m′ = cc in
+    let c : t ≡ t′ = cc in
+    let d : v ≡ v′ = cc in
+    let e : start ≡ start′ = cc in
+    let f : count ≡ count′ = cc in
+    let g : outcome ≡ outcome′ = same-reading outcome outcome′ (cc) in
+    rw (a, b, c, d, e, f, g)
+same-step (Record serial m t v start count outcome) End q = clash (cc)
+same-step (Record serial m t v start count outcome) (Stop (Malformed offset)) q = clash (cc)
+same-step (Record serial m t v start count outcome) (Stop Oversize) q = clash (cc)
+same-step End (Record serial m t v start count outcome) q = clash (cc)
+same-step End End q = refl
+same-step End (Stop (Malformed offset)) q = clash (cc)
+same-step End (Stop Oversize) q = clash (cc)
+same-step (Stop (Malformed offset)) (Record serial m t v start count outcome) q = clash (cc)
+same-step (Stop Oversize) (Record serial m t v start count outcome) q = clash (cc)
+same-step (Stop (Malformed offset)) End q = clash (cc)
+same-step (Stop Oversize) End q = clash (cc)
+same-step (Stop h) (Stop h′) q =
+    let a : h ≡ h′ = same-halt h h′ q in
+    rw a
+
+pub unique-step : (bytes : List ℕ) (at : ℕ) (r r′ : Step) → stepOf r ≡ stepReply bytes at → stepOf r′ ≡ stepReply bytes at → r ≡ r′
+unique-step bytes at r r′ p q = same-step r r′ (p ∙ sym q)
+
+same-exported : (r r′ : Exported) → exportedOf r ≡ exportedOf r′ → r ≡ r′
+same-exported (Stored n) (Stored n′) q =
+    let a : n ≡ n′ = cc in
+    rw a
+same-exported (Stored n) (Refused k) q = absurd (omega (arith, ap length q))
+same-exported (Refused k) (Stored n) q = absurd (omega (arith, ap length q))
+same-exported (Refused k) (Refused k′) q =
+    let a : k ≡ k′ = cc in
+    rw a
+
+pub unique-export : (serial m t v : ℕ) (cells out after after′ : List ℕ) (r r′ : Exported) →
+    exportedOf r ≡ exportReply serial m t v cells out → after ≡ exportLeaves serial m t v cells out →
+    exportedOf r′ ≡ exportReply serial m t v cells out → after′ ≡ exportLeaves serial m t v cells out → (r ≡ r′) × (after ≡ after′)
+unique-export serial m t v cells out after after′ r r′ p a p′ a′ = (same-exported r r′ (p ∙ sym p′), a ∙ sym a′)
+
+pub unique-walk : (bytes : List ℕ) (at : ℕ) (rows after after′ : List ℕ) (r r′ : Walked) →
+    walkedOf r ≡ walkReply bytes at rows → after ≡ walkLeaves bytes at rows →
+    walkedOf r′ ≡ walkReply bytes at rows → after′ ≡ walkLeaves bytes at rows → (r ≡ r′) × (after ≡ after′)
+unique-walk bytes at rows after after′ r r′ p a p′ a′ =
+    let b : r .refusal ≡ r′ .refusal = cc in
+    let c : r .offset ≡ r′ .offset = cc in
+    let d : r .rows ≡ r′ .rows = cc in
+    let e : r .next ≡ r′ .next = cc in
+    let f : r .ended ≡ r′ .ended = cc in
+    (λ i. record { refusal = b i; offset = c i; rows = d i; next = e i; ended = f i }, a ∙ sym a′)

@@ -1,0 +1,47 @@
+-- The text of a listing, told piece by piece.
+use Prim.Native.Nat.{ℕ, _<_, _≤_}
+use mathlib.Core.Path.{_≡_}
+use mathlib.Core.Bool.{false, cond}
+use mathlib.Core.List.{List, [], _∷_, _++_}
+use lib.ListN.{length, take}
+use Rattle.code.specs.Dump.{stopLines, textFrom}
+use Rattle.text.specs.Within.{PutWithin}
+use Rattle.dump.specs.Answers.{Right}
+use Rattle.dump.specs.declared.Halt.{Halt}
+use Rattle.dump.specs.declared.Halt.the-variants.{Malformed, Oversize}
+use Rattle.dump.specs.declared.Listing.{Listing}
+use Rattle.dump.specs.declared.Told.{Told}
+
+-- a reply of one number is a refusal
+abbrev pub Refusing : List ℕ → Type 0
+Refusing reply = (k : ℕ) → reply ≡ k ∷ [] → 0 < k
+
+-- the closing lines of a walk that stops before the end, after so many records
+abbrev pub haltLines : ℕ → Halt → List ℕ
+haltLines count (Malformed offset) = stopLines count 7 (offset ∷ [])
+haltLines count Oversize = stopLines count 8 []
+
+-- the text that is still to be told
+abbrev pub textLeft : List ℕ → Listing → List ℕ
+textLeft bytes s = cond (s .over) [] (textFrom bytes (s .next) (s .count))
+
+-- a listing comes by no more records than bytes, and its kept layout is right
+pub record Standing (s : Listing) : Type 0 where
+  pub right : Right (s .kept)
+  pub few : s .count ≤ s .next
+  pub within : s .next ≤ 65536
+
+-- a step's lines are told from a place of the output on
+pub record Tells (bytes : List ℕ) (s : Listing) (before after : List ℕ) (at : ℕ) (r : Told) : Type 0 where
+  pub piece : List ℕ
+  pub put : PutWithin 84 before after at piece (r .end)
+  pub text : textLeft bytes s ≡ piece ++ textLeft bytes (r .listing)
+  pub standing : Standing (r .listing)
+  pub further : r .listing .over ≡ false → s .next < r .listing .next
+
+-- the front of the output is the next piece of the text; either it is the last, or the listing went on
+pub record Fills (bytes : List ℕ) (s : Listing) (out : List ℕ) (r : Told) : Type 0 where
+  pub text : textLeft bytes s ≡ take (r .end) out ++ textLeft bytes (r .listing)
+  pub inside : r .end ≤ length out
+  pub standing : Standing (r .listing)
+  pub further : r .listing .over ≡ false → s .next < r .listing .next

@@ -1,0 +1,15 @@
+-- `gorvlime::flat_reading` meets its contract, case by case. Assumes nothing.
+use borrow.Author.Needs.{needs}
+use Rattle.code.specs.Calls.{filled}
+use Rattle.gorvlime.proofs.flat_reading.Statement.{statement}
+use Rattle.gorvlime.proofs.flat_reading.Tie as tie
+
+pub flat-reading-spec : {M : Type 1} → statement M
+unfolding filled
+flat-reading-spec =
+    tie.close
+    (tie.spec
+    (λ c. search needs)
+    (λ c. search needs)
+    (λ c. rw (c .before .a .given .1))
+    (λ c. rw (c .before .a2 .given .1)))

@@ -1,0 +1,14 @@
+-- `gorvlime::gorvlime_read` meets its contract: the reading's reply in four fields. Assumes nothing.
+use mathlib.Core.Path.{ap, _∙_}
+use borrow.Author.Needs.{needs}
+use Rattle.code.specs.Calls.{filled}
+use Rattle.gorvlime.proofs.gorvlime_read.Statement.{statement}
+use Rattle.gorvlime.proofs.gorvlime_read.Tie as tie
+
+pub gorvlime-read-spec : {M : Type 1} → statement M
+gorvlime-read-spec =
+    tie.close
+    (tie.spec
+    (λ c κs. search needs)
+    (λ c κs. search needs)
+    (λ c. c .flat-reading .ensures ∙ ap (filled 4) (c .before .read .ensures)))
