@@ -3,7 +3,7 @@ use field::Reading;
 use records::Head;
 ghost use mathlib.Core.Path.{_≡_};
 ghost use mathlib.Core.Bool.{false};
-ghost use mathlib.Core.List.{_∷_};
+ghost use mathlib.Core.List.{[], _∷_};
 ghost use Prim.Native.Nat.{_+_, _≤_};
 ghost use lib.ListN.{length};
 ghost use Rattle.code.specs.Calls.{filled};
@@ -216,6 +216,19 @@ fn halt_walk(halt: Halt, next: u64, rows: u64) -> Walked
     }
 }
 
+// The answer of a walk that is not refused.
+fn pause_walk(next: u64, rows: u64, ended: u64) -> Walked
+    ensures { λ r. ⌜ walkedOf r ≡ 0 ∷ 0 ∷ rows ∷ next ∷ ended ∷ [] ⌝ }
+{
+    Walked {
+        refusal: 0,
+        offset: 0,
+        rows,
+        next,
+        ended,
+    }
+}
+
 // The numbers of a row.
 const ROW: usize = 10;
 
@@ -272,13 +285,7 @@ pub fn walk(dump: &[u8], at: usize, rows: &mut [u64]) -> Walked
     ensures { λ r. ⌜ now (rows .exit) ≡ walkLeaves (now (dump .entry)) at (now (rows .entry)) ⌝ }
 {
     if DUMP_MOST < dump.len() {
-        return Walked {
-            refusal: 8,
-            offset: 0,
-            rows: 0,
-            next: 0,
-            ended: 0,
-        };
+        return halt_walk(Halt::Oversize, 0, 0);
     }
     let mut kept = keep_none();
     let mut next = at;
@@ -304,26 +311,14 @@ pub fn walk(dump: &[u8], at: usize, rows: &mut [u64]) -> Walked
                 done += 1;
             }
             Step::End => {
-                return Walked {
-                    refusal: 0,
-                    offset: 0,
-                    rows: done,
-                    next: next as u64,
-                    ended: 1,
-                };
+                return pause_walk(next as u64, done, 1);
             }
             Step::Stop(halt) => {
                 return halt_walk(halt, next as u64, done);
             }
         }
     }
-    Walked {
-        refusal: 0,
-        offset: 0,
-        rows: done,
-        next: next as u64,
-        ended: 0,
-    }
+    pause_walk(next as u64, done, 0)
 }
 
 // The line of a record.

@@ -23,8 +23,13 @@ walk-spec =
     (tie.spec
     Inv-loop
     μ-loop
+    -- halt-walk-requires
+    (λ c κs. search needs)
     -- returns
-    (λ c. let a = c .before .before .before .args in walk-refused (now (a .dump)) (a .at) (now (a .rows)) (omega arith))
+    (λ c.
+    let a = c .before .before .before .before .args in
+    let r = walk-refused (now (a .dump)) (a .at) (now (a .rows)) (omega arith) in
+    (c .halt-walk .ensures ∙ r .0, r .1))
     -- keep-none-requires
     (λ c κs. search needs)
     -- loop-holds
@@ -66,15 +71,18 @@ walk-spec =
     (omega arith, omega (arith, w .room, walking-length w), walking-length w, c .before .before .before .before .before .before .before .before .before .step-kept .ensures .1, w))
     -- enum-told
     (λ c. search needs)
+    -- pause-walk-requires
+    (λ c κs. search needs)
     -- same-length
-    (λ c. c .before .before .before .before .before .loop .inv .2)
+    (λ c. c .before .before .before .before .before .before .loop .inv .2)
     -- returns-2
     (λ c.
-    let l = c .before .before .before .before .before .loop in
-    walking-end (l .inv .4) (omega arith) (l .inv .0) (sym (ap stepOf (c .enum-told .given .1)) ∙ c .before .before .before .step-kept .ensures .0))
+    let l = c .before .before .before .before .before .before .loop in
+    let r = walking-end (l .inv .4) (omega arith) (l .inv .0) (sym (ap stepOf (c .before .enum-told .given .1)) ∙ c .before .before .before .before .step-kept .ensures .0) in
+    (c .pause-walk .ensures ∙ r .0, r .1))
     -- enum-known-step-2
     (λ c. search needs)
-    -- halt-walk-requires
+    -- halt-walk-requires-2
     (λ c κs. search needs)
     -- same-length-2
     (λ c. c .before .before .before .before .before .before .before .loop .inv .2)
@@ -82,10 +90,13 @@ walk-spec =
     (λ c.
     let l = c .before .before .before .before .before .before .before .loop in
     let r = walking-stop (l .inv .4) (omega arith) (l .inv .0) (c .before .before .step2 .given .0 .0) (sym (ap stepOf (c .before .before .step2 .given .1)) ∙ c .before .before .before .before .before .step-kept .ensures .0) in
-    (c .halt-walk .ensures ∙ r .0, r .1))
+    (c .halt-walk2 .ensures ∙ r .0, r .1))
+    -- pause-walk-requires-2
+    (λ c κs. search needs)
     -- same-length-3
-    (λ c. c .before .loop .inv .2)
+    (λ c. c .before .before .loop .inv .2)
     -- returns-4
     (λ c.
-    let l = c .before .loop in
-    walking-full (l .inv .4) (l .inv .0) (omega arith)))
+    let l = c .before .before .loop in
+    let r = walking-full (l .inv .4) (l .inv .0) (omega arith) in
+    (c .pause-walk2 .ensures ∙ r .0, r .1)))
