@@ -1,5 +1,6 @@
 -- `dump::renew` meets its contract. Assumes nothing.
 use mathlib.Core.Path.{refl}
+use native.Mathlib.Omega.{arith}
 use borrow.Author.Needs.{needs}
 use Rattle.dump.proofs.renew.Statement.{statement}
 use Rattle.dump.proofs.renew.Tie as tie
@@ -9,7 +10,7 @@ renew-spec =
     tie.close
     (tie.spec
     -- returns
-    (λ c. record { same-m = c .if3 .taken; same-t = c .before .before .if2 .taken; same-v = c .before .before .before .before .if1 .taken; right = c .before .before .before .before .before .before .pre })
+    (λ c. record { same-m = omega arith; same-t = omega arith; same-v = omega arith; right = c .before .before .before .before .before .before .pre })
     -- lay-out-requires
     (λ c κs. search needs)
     -- returns-2
