@@ -28,6 +28,7 @@ unfoldable pub refusal : List (ℕ × Bool) → ℕ
 refusal [] = 0
 refusal (test ∷ tests) = cond (test .1) (test .0) (refusal tests)
 
+-- "A refusal carries its number only"
 unfoldable pub answer : ℕ → List ℕ → List ℕ
 answer zero values = 0 ∷ values
 answer (suc k) values = suc k ∷ []
@@ -48,6 +49,7 @@ misfit g hs = ltb g (getD hs 0 0)
 unfoldable pub granted : ℕ → ℕ → ℕ → ℕ → List ℕ
 granted m t v g = grant g m 0 (replicate t v)
 
+-- the table, rows 1 and 2
 unfoldable pub layoutRefusal : ℕ → ℕ → ℕ → ℕ → ℕ
 layoutRefusal m t v g = refusal ((1, outside m t v g) ∷ (2, misfit g (granted m t v g)) ∷ [])
 
@@ -65,10 +67,12 @@ fieldWrite m t v x bytes = writeCells 0 m 0 (granted m t v 256) (replicate t v) 
 unfoldable pub unsound : ℕ → ℕ → ℕ → List ℕ → Bool
 unsound m t v bytes = not (sound 0 m (getD (granted m t v 256) 0 0) bytes)
 
+-- "the cells have no reading"
 unfoldable pub unreadable : Reading → Bool
 unreadable unread = true
 unreadable (reads i x) = false
 
+-- 01, Reading: the generation and the number of a reading
 unfoldable pub generation : Reading → ℕ
 generation unread = 0
 generation (reads i x) = i
@@ -81,6 +85,7 @@ holds (reads i x) = x
 unfoldable pub left : ℕ → ℕ → List ℕ → ℕ
 left t i gs = cond (eqb (written gs) 0) t (t - i)
 
+-- the table's rows for read, in its order: 1, 2, 3, 4
 unfoldable pub readRefusal : ℕ → ℕ → ℕ → List ℕ → ℕ
 readRefusal m t v bytes = refusal (
     (1, outside m t v 256) ∷
@@ -93,6 +98,7 @@ readReply m t v bytes =
     let r = fieldRead m t v bytes in
     answer (readRefusal m t v bytes) (generation r ∷ holds r ∷ left t (generation r) (opened 0 m (getD (granted m t v 256) 0 0) bytes) ∷ [])
 
+-- the table's rows for write, in its order: 1, 2, 3, 6, 4, 5
 unfoldable pub writeRefusal : ℕ → ℕ → ℕ → ℕ → List ℕ → ℕ
 writeRefusal m t v x bytes = refusal (
     (1, outside m t v 256) ∷

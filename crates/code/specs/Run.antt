@@ -5,6 +5,7 @@ use mathlib.Core.List.{List, [], _∷_}
 use lib.ListN.{length, getD}
 use Rattle.code.specs.Field.{Writing, refused, wrote}
 
+-- demand 3: "the j-th write is accepted"
 unfoldable pub accepted : Writing → Bool
 accepted refused = false
 accepted (wrote i cells) = true
