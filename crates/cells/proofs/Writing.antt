@@ -18,7 +18,7 @@ use Rattle.code.specs.Field.{erase, lay}
 use Rattle.code.proofs.Tests.{le-or-lt}
 use Rattle.code.proofs.Wits.{Bytes, wit-lt}
 use Rattle.code.proofs.Numbers.{value-same}
-use Rattle.code.proofs.Groups.{Grows, erase-lay-grows}
+use Rattle.code.proofs.Groups.{Grows, lay-skip, erase-lay-grows}
 use Rattle.code.proofs.Cells.{groups-length, groups-at, sound-told, stored-wit, grows-wit, turned-ones, upto-at}
 use Rattle.cells.specs.Cells.{Held, Raised, Due, Rewritten}
 use Rattle.cells.proofs.Held.{held-at, held-same, held-small}
@@ -34,11 +34,6 @@ lay-zero : (xs ps : List ℕ) → lay (0 ∷ xs) ps ≡ getD ps 0 0 ∷ lay xs (
 unfolding lay
 lay-zero xs [] = refl
 lay-zero xs (p ∷ ps) = refl
-
-lay-other : (x : ℕ) (xs ps : List ℕ) → 0 < x → lay (x ∷ xs) ps ≡ x ∷ lay xs ps
-unfolding lay
-lay-other zero xs ps pos = absurd (omega arith)
-lay-other (suc x) xs ps pos = refl
 
 module _ {e spare : ℕ} {ps : List ℕ} {z v : ℕ} (d : Due e spare ps z v) where
   due-next : spare ≤ z → v ≡ getD ps (z - spare) 0
@@ -64,13 +59,13 @@ module _ {e spare : ℕ} {ps : List ℕ} {z v : ℕ} (d : Due e spare ps z v) wh
     | inr l ↦
         let p : spare - z ≡ suc (spare - (z + 1)) = omega arith in
         let q : z - spare ≡ z + 1 - spare = omega arith in
-        rw (p, q, d .left l) (lay-other e (erase e (spare - (z + 1)) xs) (drop (z + 1 - spare) ps) pos)
+        rw (p, q, d .left l) (lay-skip e (erase e (spare - (z + 1)) xs) (drop (z + 1 - spare) ps) pos)
   ]
 
 rest-other : (e spare : ℕ) (ps : List ℕ) (z x : ℕ) (xs : List ℕ) → 0 < e → x ≢ 0 → rest e spare ps z (x ∷ xs) ≡ e ∷ rest e spare ps z xs
 unfolding rest erase
 rest-other e spare ps z zero xs pos ne = absurd (ne refl)
-rest-other e spare ps z (suc x) xs pos ne = lay-other e (erase e (spare - z) xs) (drop (z - spare) ps) pos
+rest-other e spare ps z (suc x) xs pos ne = lay-skip e (erase e (spare - z) xs) (drop (z - spare) ps) pos
 
 -- all ones are a number of m bits, and not zero
 pub ones-lt : (m e : ℕ) → e ≡ 2 ^ m - 1 → e < 2 ^ m

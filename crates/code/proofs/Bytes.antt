@@ -9,14 +9,14 @@ use lib.ListN.{length, getD, take, replicate, length-replicate}
 use lib.Dec.{leb}
 use Rattle.code.specs.Cells.{wit, sum, opened, size, sound, stored, ones, turned}
 use Rattle.code.specs.Field.{reads, Writing, refused, wrote, write}
-use Rattle.code.specs.Run.{accepted, kept, run, total, opening, InRange}
+use Rattle.code.specs.Run.{accepted, kept, run, total, opening}
 use Rattle.code.specs.Calls.{readCells, storing, writeCells}
 use Rattle.code.specs.Lists.{Upto}
 use Rattle.code.proofs.Wits.{Bytes}
 use Rattle.code.proofs.Cells.{groups-length, sound-told, sound-length, stored-wit, stored-bytes, stored-length, stored-opened, stored-sound, grows-wit, turned-ones, blank-wit, blank-stored, upto-all, none-at}
 use Rattle.code.proofs.Conditions.{Layout}
 use Rattle.code.proofs.Field.{write-is}
-use Rattle.code.proofs.Run.{tried}
+use Rattle.code.proofs.Run.{InRange, tried}
 use Rattle.code.proofs.Run as groupwise
 
 -- the cells that a try of x leaves

@@ -17,7 +17,7 @@ use Rattle.code.specs.Cells.{place, wit, value, listed, sum, group, grou
 use Rattle.code.proofs.Tests.{both-true}
 use Rattle.code.proofs.Bits.{bit, bit-full}
 use Rattle.code.proofs.Wits.{Bytes, wit-lt, wit-past, wit-ext, place-lt, place-place}
-use Rattle.code.proofs.Numbers.{value-lt, value-byte, value-bit, value-is, value-zero, value-none, listed-length, listed-at, sum-difference}
+use Rattle.code.proofs.Numbers.{value-byte, value-bit, value-is, value-zero, value-none, listed-length, listed-at, sum-difference}
 use Rattle.code.proofs.Groups.{Grows}
 
 -- n bytes of the wits f
@@ -123,11 +123,6 @@ upto-at b (x ∷ xs) (suc i) u = upto-at b xs i (u .1)
 pub upto-all : (b : ℕ) (xs : List ℕ) → ((i : ℕ) → i < length xs → getD xs i 0 ≤ b) → Upto b xs
 upto-all b [] e = tt
 upto-all b (x ∷ xs) e = (e 0 (omega arith), upto-all b xs (λ i l. e (suc i) (omega arith)))
-
-pub groups-small : (m h : ℕ) (f : ℕ → ℕ) → ((k : ℕ) → f k < 2) → Upto (2 ^ m - 1) (groups m h f)
-unfolding group
-groups-small m h f b = upto-all (2 ^ m - 1) (groups m h f)
-    (λ i l. rw (groups-at m h f i (omega (arith, groups-length m h f))) (omega (arith, value-lt f (m * i) m b)))
 
 -- every list of groups has its buffer
 module _ (o m : ℕ) (gs : List ℕ) (pos : 0 < m) where

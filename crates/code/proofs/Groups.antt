@@ -43,7 +43,7 @@ unfolding zeros
 zeros-tails zero xs ys h = ap suc h
 zeros-tails (suc x) xs ys h = h
 
-lay-skip : (x : ℕ) (xs ps : List ℕ) → 0 < x → lay (x ∷ xs) ps ≡ x ∷ lay xs ps
+pub lay-skip : (x : ℕ) (xs ps : List ℕ) → 0 < x → lay (x ∷ xs) ps ≡ x ∷ lay xs ps
 unfolding lay
 lay-skip zero xs ps h = absurd (omega arith)
 lay-skip (suc x) xs ps h = refl

@@ -22,7 +22,6 @@ pub mod Writes
 pub mod LayoutReply
 pub mod Places
 pub mod Sums
-pub mod First
 pub mod Parts
 pub mod Digits
 pub mod Numerals

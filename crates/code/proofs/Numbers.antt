@@ -4,7 +4,7 @@ use mathlib.Core.Logic.{_≢_}
 use Prim.Native.Nat.{ℕ, zero, suc, _+_, _-_, _^_, _/_, _≤_, _<_}
 use native.Mathlib.Omega.{arith}
 use native.Mathlib.Decide.{ℕ-discrete}
-use native.Mathlib.Nat.{pow-succ', pow-suc, suc-add, add-suc, add-zero, zero-add, lt-of-lt-of-le}
+use native.Mathlib.Nat.{pow-succ', suc-add, add-suc, add-zero, zero-add, lt-of-lt-of-le}
 use lib.Pow.{pow-mono}
 use lib.Arith.{lt-of-le-ne}
 use lib.ListN.{length, getD, set, length-set}

@@ -10,13 +10,14 @@ use lib.Dec.{leb}
 use borrow.Author.Tests.{le-leb, lt-leb, lt-ltb, le-ltb}
 use Rattle.code.specs.Count.{choose, fewer}
 use Rattle.code.specs.Deal.{written, rank, digits, number}
-use Rattle.code.specs.Field.{zeros, base, start, carriers, told, reads, read, after, refused, wrote, writeAt, writeOn, write}
-use Rattle.code.specs.Run.{accepted, kept, run, total, opening, next, InRange}
+use Rattle.code.specs.Field.{zeros, base, start, carriers, reads, read, after, refused, wrote, writeAt, writeOn, write}
+use Rattle.code.specs.Run.{accepted, kept, run, total, opening}
 use Rattle.code.specs.Lists.{Below}
 use Rattle.code.proofs.Tests.{le-or-lt}
 use Rattle.code.proofs.Count.{fewer-grows}
 use Rattle.code.proofs.Conditions.{Layout, holds-length, holds-falls, head-most}
 use Rattle.code.proofs.Groups.{zeros-written}
+use Rattle.code.proofs.Places.{told-before}
 use Rattle.code.proofs.Field.{read-is, past-is, Ready, After, after-is, write-blank, write-read}
 
 -- The pattern that writes nothing has number 0, and where it is allowed no other has.
@@ -41,12 +42,13 @@ number-blank b p h = elim (le-or-lt (written p) 0) [
   | inr g ↦ absurd (omega (arith, fewer-one b (length p), fewer-grows b (length p) 0 1 (written p) g))
 ]
 
-told-inner : (e b first h′ : ℕ) (p : List ℕ) → 0 < h′ → told e b first h′ p ≡ number b first p
-unfolding told
-told-inner e b first zero p h = absurd (omega arith)
-told-inner e b first (suc h′) p h = refl
+-- The generations used once x is tried where c of t are.
+unfoldable pub next : ℕ → ℕ → ℕ → ℕ → ℕ
+next zero t zero zero = 0
+next zero t zero (suc x) = min t 1
+next zero t (suc c) x = min t (suc (suc c))
+next (suc first) t c x = min t (suc c)
 
--- How the count of used generations goes on.
 next-most : (first t c x : ℕ) → next first t c x ≤ t
 unfolding next
 next-most zero t zero zero = omega arith
@@ -71,6 +73,20 @@ module _ (f g : ℕ → List ℕ → List ℕ) (same : (x : ℕ) (cells : List �
   unfolding total
   total-same a b also cells [] = refl
   total-same a b also cells (x ∷ xs) = rw (same x cells) (omega (arith, also x cells, total-same a b also (g x cells) xs))
+
+-- the cells and the count after one number more
+pub run-more : (f : ℕ → List ℕ → List ℕ) (bs xs : List ℕ) (j : ℕ) → j < length xs → run f bs (take (suc j) xs) ≡ f (getD xs j 0) (run f bs (take j xs))
+unfolding run
+run-more f bs [] j l = absurd (omega arith)
+run-more f bs (x ∷ xs) zero l = refl
+run-more f bs (x ∷ xs) (suc j) l = run-more f (f x bs) xs j (omega arith)
+
+pub total-more : (c : ℕ → List ℕ → ℕ) (f : ℕ → List ℕ → List ℕ) (bs xs : List ℕ) (j : ℕ) → j < length xs
+    → total c f bs (take (suc j) xs) ≡ total c f bs (take j xs) + c (getD xs j 0) (run f bs (take j xs))
+unfolding run total
+total-more c f bs [] j l = absurd (omega arith)
+total-more c f bs (x ∷ xs) zero l = omega arith
+total-more c f bs (x ∷ xs) (suc j) l = omega (arith, total-more c f (f x bs) xs j (omega arith))
 
 -- the generations used once each of a list is tried
 tally : ℕ → ℕ → ℕ → List ℕ → ℕ
@@ -98,7 +114,12 @@ opening-take zero (zero ∷ xs) (suc j) = omega (arith, opening-take zero xs j)
 opening-take zero (suc x ∷ xs) (suc j) = omega arith
 opening-take (suc first) xs j = omega arith
 
--- Numbers in range: of a sequence up to a place, and at it; and for equal ranges.
+-- Each number is below the range of the generation that would take it, or none would.
+unfoldable pub InRange : ℕ → List ℕ → ℕ → List ℕ → Type 0
+InRange first vs c [] = Unit {0}
+InRange first vs c (x ∷ xs) = (c < length vs → x < getD vs c 0) × InRange first vs (next first (length vs) c x) xs
+
+-- so are those of a sequence up to a place, and the one at it; and those of equal ranges
 in-range-at : (first : ℕ) (vs : List ℕ) (c : ℕ) (xs : List ℕ) (j : ℕ) → InRange first vs c xs → j < length xs →
     InRange first vs c (take j xs) × (tally first (length vs) c (take j xs) < length vs → getD xs j 0 < getD vs (tally first (length vs) c (take j xs)) 0)
 unfolding InRange tally
@@ -162,12 +183,12 @@ blank-reads e hs vs gs y l z v =
     let full : zeros gs ≡ getD hs 0 0 = omega (arith, zeros-written gs) in
     read-is e 0 hs vs gs gs 0 0
     (past-is e e 0 hs vs 0 (zeros gs) (y .holds) (omega (arith, head-most e e 0 hs vs 1 (y .holds))) (inl refl)) refl (omega arith) l
-    (told-inner e e 0 (getD hs 1 0) gs (omega (arith, holds-falls e e 0 hs vs 1 (y .holds) (y .two))) ∙ blank-number e 0 gs (omega arith)) v
+    (told-before e e 0 (getD hs 1 0) gs (omega (arith, holds-falls e e 0 hs vs 1 (y .holds) (y .two))) ∙ blank-number e 0 gs (omega arith)) v
 
 -- generation 1 leaves the cells blank exactly where the number is one of the opening zeros
 first-tells : (e first : ℕ) (hs vs : List ℕ) (x : ℕ) (gs gs′ : List ℕ) → Layout e first hs vs → After e first hs vs 0 x gs gs′ → number e first gs′ ≡ x
 unfolding base start carriers
-first-tells e first hs vs x gs gs′ y a = sym (told-inner e e first (getD hs 1 0) gs′ (omega (arith, holds-falls e e first hs vs 1 (y .holds) (y .two)))) ∙ a .tells
+first-tells e first hs vs x gs gs′ y a = sym (told-before e e first (getD hs 1 0) gs′ (omega (arith, holds-falls e e first hs vs 1 (y .holds) (y .two)))) ∙ a .tells
 
 start-pos : (first c : ℕ) → 0 < first → 0 < start first c
 unfolding start

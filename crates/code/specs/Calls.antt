@@ -10,15 +10,17 @@ use Rattle.code.specs.Cells.{opened, sound, stored, turned}
 use Rattle.code.specs.Field.{Reading, unread, reads, read, Writing, refused, wrote, write}
 use Rattle.code.specs.Run.{kept}
 
--- a buffer read and written by a granted list hs with its ranges vs: its groups are, where it is sound
+-- 01, Reading, of a buffer by a granted list hs with its ranges vs: its groups are read, where it is sound
 unfoldable pub readCells : ℕ → ℕ → ℕ → List ℕ → List ℕ → List ℕ → Reading
 readCells order m first hs vs bytes =
     cond (sound order m (getD hs 0 0) bytes) (read (2 ^ m - 1) first hs vs (opened order m (getD hs 0 0) bytes)) unread
 
+-- 01, Cells in bytes: the groups that a write leaves, as a buffer
 unfoldable pub storing : ℕ → ℕ → Writing → Writing
 storing order m refused = refused
 storing order m (wrote i gs) = wrote i (stored order m gs)
 
+-- 01, Writing, of a buffer: its groups are written, where it is sound
 unfoldable pub writeCells : ℕ → ℕ → ℕ → List ℕ → List ℕ → ℕ → List ℕ → Writing
 writeCells order m first hs vs x bytes =
     cond (sound order m (getD hs 0 0) bytes) (storing order m (write (2 ^ m - 1) first hs vs x (opened order m (getD hs 0 0) bytes))) refused
@@ -33,7 +35,7 @@ unfoldable pub answer : ℕ → List ℕ → List ℕ
 answer zero values = 0 ∷ values
 answer (suc k) values = suc k ∷ []
 
--- a reply in n fields, the ones that it lacks being 0
+-- a reply in n fields, 0 in those that it lacks, as a struct or a row has them
 unfoldable pub filled : ℕ → List ℕ → List ℕ
 filled n reply = take n (reply ++ replicate n 0)
 
@@ -45,14 +47,15 @@ outside m t v g = not ((leb 2 m && leb m 4) && (leb 2 t && leb t 16) && (leb 2 v
 unfoldable pub misfit : ℕ → List ℕ → Bool
 misfit g hs = ltb g (getD hs 0 0)
 
--- the layout call: t equal ranges, generation 1 from no written place on
+-- 01, Layout: t equal ranges v, and generation 1 sums "over k = 0 .."
 unfoldable pub granted : ℕ → ℕ → ℕ → ℕ → List ℕ
 granted m t v g = grant g m 0 (replicate t v)
 
--- the table, rows 1 and 2
+-- the table's rows for layout, in its order: 1, 2
 unfoldable pub layoutRefusal : ℕ → ℕ → ℕ → ℕ → ℕ
 layoutRefusal m t v g = refusal ((1, outside m t v g) ∷ (2, misfit g (granted m t v g)) ∷ [])
 
+-- the call's answer: "The granted list"
 unfoldable pub layoutReply : ℕ → ℕ → ℕ → ℕ → List ℕ
 layoutReply m t v g = answer (layoutRefusal m t v g) (granted m t v g)
 
@@ -60,6 +63,7 @@ layoutReply m t v g = answer (layoutRefusal m t v g) (granted m t v g)
 unfoldable pub fieldRead : ℕ → ℕ → ℕ → List ℕ → Reading
 fieldRead m t v bytes = readCells 0 m 0 (granted m t v 256) (replicate t v) bytes
 
+-- the same of writing
 unfoldable pub fieldWrite : ℕ → ℕ → ℕ → ℕ → List ℕ → Writing
 fieldWrite m t v x bytes = writeCells 0 m 0 (granted m t v 256) (replicate t v) x bytes
 
@@ -72,11 +76,12 @@ unfoldable pub unreadable : Reading → Bool
 unreadable unread = true
 unreadable (reads i x) = false
 
--- 01, Reading: the generation and the number of a reading
+-- 01, Reading: the generation of a reading
 unfoldable pub generation : Reading → ℕ
 generation unread = 0
 generation (reads i x) = i
 
+-- its number
 unfoldable pub holds : Reading → ℕ
 holds unread = 0
 holds (reads i x) = x
@@ -93,6 +98,7 @@ readRefusal m t v bytes = refusal (
     (3, unsound m t v bytes) ∷
     (4, unreadable (fieldRead m t v bytes)) ∷ [])
 
+-- the call's answer: generation, number and "Writes left"
 unfoldable pub readReply : ℕ → ℕ → ℕ → List ℕ → List ℕ
 readReply m t v bytes =
     let r = fieldRead m t v bytes in
@@ -108,16 +114,17 @@ writeRefusal m t v x bytes = refusal (
     (4, unreadable (fieldRead m t v bytes)) ∷
     (5, eqb (generation (fieldRead m t v bytes)) t) ∷ [])
 
--- the generation that a write was made at
+-- 01, Writing: the generation "written at"
 unfoldable pub madeAt : Writing → ℕ
 madeAt refused = 0
 madeAt (wrote i bytes) = i
 
--- "The answer is the generation and the count of wits turned from 0 to 1"; the cells afterwards, which a refused write leaves as they were
+-- "The answer is the generation and the count of wits turned from 0 to 1"
 unfoldable pub writeReply : ℕ → ℕ → ℕ → ℕ → List ℕ → List ℕ
 writeReply m t v x bytes =
     let w = fieldWrite m t v x bytes in
     answer (writeRefusal m t v x bytes) (madeAt w ∷ turned 0 bytes (kept bytes w) ∷ [])
 
+-- the cells afterwards: a refusal "stores nothing in cells"
 unfoldable pub writeLeaves : ℕ → ℕ → ℕ → ℕ → List ℕ → List ℕ
 writeLeaves m t v x bytes = cond (eqb (writeRefusal m t v x bytes) 0) (kept bytes (fieldWrite m t v x bytes)) bytes

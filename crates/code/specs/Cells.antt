@@ -5,11 +5,12 @@ use mathlib.Core.List.{List, [], _∷_}
 use lib.Dec.{eqb}
 use lib.ListN.{length, getD}
 
--- "Wit w is bit 7 − (w mod 8) of byte w div 8": order 0, the high bit first; order 1 is the low bit first
+-- "Wit w is bit 7 − (w mod 8)": order 0, the high bit first; order 1 is the low bit first
 unfoldable pub place : ℕ → ℕ → ℕ
 place zero w = 7 - w % 8
 place (suc order) w = w % 8
 
+-- "of byte w div 8"
 unfoldable pub wit : ℕ → List ℕ → ℕ → ℕ
 wit order bytes w = getD bytes (w / 8) 0 / 2 ^ place order w % 2
 
@@ -18,19 +19,21 @@ unfoldable pub value : (ℕ → ℕ) → ℕ → ℕ → ℕ
 value f w zero = 0
 value f w (suc n) = 2 * value f w n + f (w + n)
 
--- f i, f (i + 1), .., n of them; and f 0 + .. + f (n − 1)
+-- f i, f (i + 1), .., n of them
 unfoldable pub listed : (ℕ → ℕ) → ℕ → ℕ → List ℕ
 listed f i zero = []
 listed f i (suc n) = f i ∷ listed f (suc i) n
 
+-- f 0 + .. + f (n − 1)
 unfoldable pub sum : (ℕ → ℕ) → ℕ → ℕ
 sum f zero = 0
 sum f (suc n) = sum f n + f n
 
--- "Group j (from 0, called leftmost) takes wits m·j to m·j + m − 1"; and the first h groups
+-- "Group j (from 0, called leftmost) takes wits m·j to m·j + m − 1"
 unfoldable pub group : ℕ → (ℕ → ℕ) → ℕ → ℕ
 group m f j = value f (m * j) m
 
+-- the first h groups, leftmost first
 unfoldable pub groups : ℕ → ℕ → (ℕ → ℕ) → List ℕ
 groups m h f = listed (group m f) 0 h
 
@@ -38,26 +41,30 @@ groups m h f = listed (group m f) 0 h
 abbrev pub opened : ℕ → ℕ → ℕ → List ℕ → List ℕ
 opened order m h bytes = groups m h (wit order bytes)
 
--- "The buffer is exactly the least number of bytes that holds m·h_1 wits; the bits left over are 0"
+-- "the least number of bytes that holds m·h_1 wits"
 abbrev pub size : ℕ → ℕ → ℕ
 size m h = (m * h + 7) / 8
 
+-- "The buffer is exactly" so many bytes; "the bits left over are 0"
 unfoldable pub sound : ℕ → ℕ → ℕ → List ℕ → Bool
 sound order m h bytes = eqb (length bytes) (size m h) && eqb (value (wit order bytes) (m * h) (8 * length bytes - m * h)) 0
 
--- the way back: wit w of groups of m wits, 0 past the last; byte i of wits; and the buffer of groups
+-- the way back, from groups to their buffer: wit w of groups of m wits, 0 past the last
 unfoldable pub witOf : ℕ → List ℕ → ℕ → ℕ
 witOf m gs w = getD gs (w / m) 0 / 2 ^ (m - 1 - w % m) % 2
 
+-- byte i of wits, each at its place
 unfoldable pub byteOf : ℕ → (ℕ → ℕ) → ℕ → ℕ
 byteOf order f i = sum (λ k. f (8 * i + k) * 2 ^ place order k) 8
 
+-- the buffer of groups
 unfoldable pub stored : ℕ → ℕ → List ℕ → List ℕ
 stored order m gs = listed (byteOf order (witOf m gs)) 0 (size m (length gs))
 
--- 01, Writing: "the number of ones in the cells", and "the count of wits turned from 0 to 1"
+-- 01, Writing: "the number of ones in the cells"
 unfoldable pub ones : ℕ → List ℕ → ℕ
 ones order bytes = sum (wit order bytes) (8 * length bytes)
 
+-- 01, Writing: "the count of wits turned from 0 to 1"
 unfoldable pub turned : ℕ → List ℕ → List ℕ → ℕ
 turned order before after = sum (λ w. wit order after w - wit order before w) (8 * length before)

@@ -14,7 +14,7 @@ unfoldable pub fewer : ℕ → ℕ → ℕ → ℕ → ℕ
 fewer b s first zero = 0
 fewer b s first (suc k) = fewer b s first k + cond (leb first k) (choose s k * b ^ k) 0
 
--- the first number from `from` on that passes the test, or from + fuel where none before it does
+-- 01, Layout: "the least" number from `from` on that passes the test, or from + fuel where none before it does
 unfoldable pub least : (ℕ → Bool) → ℕ → ℕ → ℕ
 least test from zero = from
 least test from (suc fuel) = elim (test from) [ true ↦ from | false ↦ least test (suc from) fuel ]

@@ -48,11 +48,12 @@ deal b first s x =
     let rest = x - fewer b s first k in
     laid b s k (rest / b ^ k) (rest % b ^ k)
 
--- "Generation t: the h_t unerased groups, left to right, are the digits in base 2^m − 1": the number of digits, and s digits of a number
+-- "Generation t: the h_t unerased groups, left to right, are the digits in base 2^m − 1": the number that digits make
 unfoldable pub plain : ℕ → List ℕ → ℕ
 plain b [] = 0
 plain b (x ∷ xs) = x * b ^ length xs + plain b xs
 
+-- the same: the s digits of a number
 unfoldable pub plainly : ℕ → ℕ → ℕ → List ℕ
 plainly b zero x = []
 plainly b (suc s) x = x / b ^ s ∷ plainly b s (x % b ^ s)

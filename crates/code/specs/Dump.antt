@@ -13,7 +13,7 @@ unfoldable pub sevens : ℕ → ℕ → List ℕ
 sevens zero x = []
 sevens (suc most) x = cond (ltb x 128) (x ∷ []) ((128 + x % 128) ∷ sevens most (x / 128))
 
--- a number and the count of its bytes, or none
+-- "A number is groups of seven bits", read: the number and the count of its bytes, or "Malformed"
 pub data Numeral : Type 0 where
   malformed : Numeral
   numeral : ℕ → ℕ → Numeral
@@ -30,15 +30,17 @@ readSevens zero bytes = malformed
 readSevens (suc most) [] = malformed
 readSevens (suc most) (b ∷ bytes) = cond (ltb b 128) (numeral b 1) (longer b (readSevens most bytes))
 
--- so many numbers one after the other, and where they end; or none
+-- "serial, m, t, v, n as numbers", read: the numbers and where they end, or "a number cut off"
 pub data Numbers : Type 0 where
   cut : Numbers
   numbers : List ℕ → ℕ → Numbers
 
+-- one number more in front
 unfoldable pub preceded : ℕ → Numbers → Numbers
 preceded x cut = cut
 preceded x (numbers xs end) = numbers (x ∷ xs) end
 
+-- k numbers one after the other, each of "1 to 9 bytes"
 unfoldable pub readNumbers : ℕ → List ℕ → ℕ → Numbers
 readNumbers zero bytes at = numbers [] at
 readNumbers (suc k) bytes at = elim (readSevens 9 (drop at bytes)) [ malformed ↦ cut | numeral x n ↦ preceded x (readNumbers k bytes (at + n)) ]
@@ -47,7 +49,7 @@ readNumbers (suc k) bytes at = elim (readSevens 9 (drop at bytes)) [ malformed �
 unfoldable pub recordOf : ℕ → ℕ → ℕ → ℕ → List ℕ → List ℕ
 recordOf serial m t v cells = sevens 9 serial ++ (sevens 9 m ++ (sevens 9 t ++ (sevens 9 v ++ (sevens 9 (length cells) ++ cells))))
 
--- "An accepted export stores the record at the front of the output, leaves later bytes unchanged, and answers its length"
+-- the table's rows for export, in its order: 10, 1, 2, 3, 9
 unfoldable pub exportRefusal : ℕ → ℕ → ℕ → ℕ → List ℕ → List ℕ → ℕ
 exportRefusal serial m t v cells out = refusal (
     (10, ltb (2 ^ 63 - 1) serial) ∷
@@ -56,15 +58,17 @@ exportRefusal serial m t v cells out = refusal (
     (3, unsound m t v cells) ∷
     (9, ltb (length out) (length (recordOf serial m t v cells))) ∷ [])
 
+-- "answers its length"
 unfoldable pub exportReply : ℕ → ℕ → ℕ → ℕ → List ℕ → List ℕ → List ℕ
 exportReply serial m t v cells out = answer (exportRefusal serial m t v cells out) (length (recordOf serial m t v cells) ∷ [])
 
+-- "An accepted export stores the record at the front of the output, leaves later bytes unchanged"; a refusal "stores nothing in .. output"
 unfoldable pub exportLeaves : ℕ → ℕ → ℕ → ℕ → List ℕ → List ℕ → List ℕ
 exportLeaves serial m t v cells out =
     let made = recordOf serial m t v cells in
     cond (eqb (exportRefusal serial m t v cells out) 0) (made ++ drop (length made) out) out
 
--- one step of the walk: a record's serial, m, t, v and the start and count of its cell bytes; the end; or a stop with its refusal and what that carries
+-- "The walk gives serial, m, t, v and the record's cell bytes", here by start and count; the end; or a stop with its refusal and what that carries
 pub data Step : Type 0 where
   taken : (serial m t v start count : ℕ) → Step
   ended : Step
@@ -86,10 +90,11 @@ outcome bytes (taken serial m t v start count) = 0 ∷ serial ∷ m ∷ t ∷ v 
 outcome bytes ended = 0 ∷ []
 outcome bytes (stopped k carried) = k ∷ carried
 
+-- the reply of one step
 unfoldable pub stepReply : List ℕ → ℕ → List ℕ
 stepReply bytes at = outcome bytes (step bytes at)
 
--- all steps from a place on; "Refusal 7 ends it"
+-- all steps from a place on: "the walk goes on", "Refusal 7 ends it"
 unfoldable pub walkFrom : ℕ → List ℕ → ℕ → List Step
 walkFrom zero bytes at = []
 walkFrom (suc fuel) bytes at = elim (step bytes at) [
@@ -98,6 +103,7 @@ walkFrom (suc fuel) bytes at = elim (step bytes at) [
   | stopped k carried ↦ stopped k carried ∷ []
 ]
 
+-- "A dump is records up to its end": all steps from its first byte on
 unfoldable pub walk : List ℕ → List Step
 walk bytes = walkFrom (suc (length bytes)) bytes 0
 
@@ -123,20 +129,23 @@ closing at rows (stopped k carried ∷ steps) = k ∷ getD carried 0 0 ∷ rows 
 unfoldable pub walkReply : List ℕ → ℕ → List ℕ → List ℕ
 walkReply bytes at rows = cond (ltb 65536 (length bytes)) (8 ∷ 0 ∷ 0 ∷ 0 ∷ 0 ∷ []) (closing at 0 (walkFrom (length rows / 10) bytes at))
 
+-- the rows filled, and behind them what stood there
 unfoldable pub walkLeaves : List ℕ → ℕ → List ℕ → List ℕ
 walkLeaves bytes at rows =
     let made = rowsOf bytes (walkFrom (length rows / 10) bytes at) in
     made ++ drop (length made) rows
 
--- the bytes of a text, and a number in decimal
+-- the bytes of a text
 unfoldable pub ascii : String → List ℕ
 ascii nothing = []
 ascii (c before text) = code c ∷ ascii text
 
+-- "All numbers are decimal": in at most so many digits
 unfoldable pub spelled : ℕ → ℕ → List ℕ
 spelled zero x = []
 spelled (suc most) x = cond (ltb x 10) ((48 + x) ∷ []) (spelled most (x / 10) ++ ((48 + x % 10) ∷ []))
 
+-- a number below 2^64 takes at most 20
 abbrev pub decimal : ℕ → List ℕ
 decimal x = spelled 20 x
 
@@ -156,6 +165,7 @@ unfoldable pub stopLines : ℕ → ℕ → List ℕ → List ℕ
 stopLines count k [] = ascii "refused " ++ (decimal k ++ ascii "\n")
 stopLines count k (offset ∷ more) = ascii "stopped " ++ (decimal k ++ (ascii " at " ++ (decimal offset ++ (ascii "\n" ++ lastLine count))))
 
+-- a line per record and the last lines, after `count` records
 unfoldable pub lines : List ℕ → ℕ → List Step → List ℕ
 lines bytes count [] = []
 lines bytes count (taken serial m t v start n ∷ steps) = recordLine serial (readReply m t v (take n (drop start bytes))) ++ lines bytes (suc count) steps

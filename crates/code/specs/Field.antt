@@ -13,7 +13,7 @@ zeros [] = 0
 zeros (zero ∷ xs) = suc (zeros xs)
 zeros (suc x ∷ xs) = zeros xs
 
--- the groups that are not erased, in order
+-- "the unerased groups": a group is "erased (value 2^m − 1)"
 unfoldable pub unerased : ℕ → List ℕ → List ℕ
 unerased e [] = []
 unerased e (x ∷ xs) = cond (eqb x e) (unerased e xs) (x ∷ unerased e xs)
@@ -23,30 +23,32 @@ unfoldable pub past : List ℕ → ℕ → ℕ
 past [] z = 0
 past (h ∷ hs) z = cond (leb (getD hs 0 0) z) 0 (suc (past hs z))
 
--- "Generation 1: places are all h_1 groups, b = 2^m − 1, k from 0"; "Generations 2 to t − 1: places are the unerased groups, h_i of them; b = 2^m − 2, k from 1":
--- of generation n + 1, the values of a written place, the least k, and the places
+-- "Generation 1: .. b = 2^m − 1"; "Generations 2 to t − 1: .. b = 2^m − 2"
 unfoldable pub base : ℕ → ℕ → ℕ
 base e zero = e
 base e (suc n) = e - 1
 
+-- "k from 0"; "k from 1"
 unfoldable pub start : ℕ → ℕ → ℕ
 start first zero = first
 start first (suc n) = 1
 
+-- "places are all h_1 groups"; "places are the unerased groups"
 unfoldable pub carriers : ℕ → ℕ → List ℕ → List ℕ
 carriers e zero gs = gs
 carriers e (suc n) gs = unerased e gs
 
--- the number that the places tell, and the pattern of a number in h places; after the last generation there is no count (0), and it has "the digits in base 2^m − 1 of the number plus 1"
+-- the number that the places tell: "Its number is" for a pattern, and after the last generation, where no count (0) follows, "the digits .. of the number plus 1"
 unfoldable pub told : ℕ → ℕ → ℕ → ℕ → List ℕ → ℕ
 told e b first zero xs = plain e xs - 1
 told e b first (suc h′) xs = number b first xs
 
+-- the pattern that has number x in h places, by the same two sentences
 unfoldable pub pattern : ℕ → ℕ → ℕ → ℕ → ℕ → ℕ → List ℕ
 pattern e b first h zero x = plainly e h (x + 1)
 pattern e b first h (suc h′) x = deal b first h x
 
--- generation and number, or none
+-- 01, Reading: generation and number, or "no reading"
 pub data Reading : Type 0 where
   unread : Reading
   reads : ℕ → ℕ → Reading
@@ -60,13 +62,14 @@ read e first hs vs gs =
     let x = told e (base e n) (start first n) (getD hs (suc n) 0) xs in
     cond (leb (start first n) (written xs) && (eqb (length xs) (getD hs n 0) && ltb x (getD vs n 0))) (reads (suc n) x) unread
 
--- "every nonzero group is set to all ones; then, while more than h_(i+1) zero groups remain, the leftmost zero group is erased": the leftmost `spare` of them
+-- "every nonzero group is set to all ones; then .. the leftmost zero group is erased", `spare` times
 unfoldable pub erase : ℕ → ℕ → List ℕ → List ℕ
 erase e spare [] = []
 erase e spare (suc x ∷ xs) = e ∷ erase e spare xs
 erase e zero (zero ∷ xs) = 0 ∷ erase e zero xs
 erase e (suc spare) (zero ∷ xs) = e ∷ erase e spare xs
 
+-- "while more than h_(i+1) zero groups remain"; generation 1 is written on blank cells as they are
 unfoldable pub cleared : ℕ → ℕ → ℕ → List ℕ → List ℕ
 cleared e zero h gs = gs
 cleared e (suc n) h gs = erase e (zeros gs - h) gs
@@ -78,25 +81,26 @@ lay (suc x ∷ xs) ps = suc x ∷ lay xs ps
 lay (zero ∷ xs) [] = 0 ∷ lay xs []
 lay (zero ∷ xs) (p ∷ ps) = p ∷ lay xs ps
 
--- the groups after writing x at generation n + 1
+-- 01, Writing: the groups after writing x at generation n + 1
 unfoldable pub after : ℕ → ℕ → List ℕ → ℕ → ℕ → List ℕ → List ℕ
 after e first hs n x gs =
     let h = getD hs n 0 in
     lay (cleared e n h gs) (pattern e (base e n) (start first n) h (getD hs (suc n) 0) x)
 
--- generation and what is left in the cells, or none
+-- 01, Writing: generation and what is left in the cells, or a refusal
 pub data Writing : Type 0 where
   refused : Writing
   wrote : ℕ → List ℕ → Writing
 
--- at generation n + 1, if there is one and the number is in its range
+-- at generation n + 1, if there is one ("i < t") and the number is in its range
 unfoldable pub writeAt : ℕ → ℕ → List ℕ → List ℕ → ℕ → List ℕ → ℕ → Writing
 writeAt e first hs vs x gs n = cond (ltb n (length hs) && ltb x (getD vs n 0)) (wrote (suc n) (after e first hs n x gs)) refused
 
--- "All-zero cells are written at generation 1. Cells read as generation i < t are written at i + 1"
+-- "Cells read as generation i < t are written at i + 1"
 unfoldable pub writeOn : ℕ → ℕ → List ℕ → List ℕ → ℕ → List ℕ → Reading → Writing
 writeOn e first hs vs x gs unread = refused
 writeOn e first hs vs x gs (reads i y) = writeAt e first hs vs x gs i
 
+-- "All-zero cells are written at generation 1"
 unfoldable pub write : ℕ → ℕ → List ℕ → List ℕ → ℕ → List ℕ → Writing
 write e first hs vs x gs = cond (eqb (written gs) 0) (writeAt e first hs vs x gs 0) (writeOn e first hs vs x gs (read e first hs vs gs))

@@ -15,19 +15,18 @@ pub record Meets (m first : ℕ) (hs vs : List ℕ) : Type 0 where
   pub c : (i : ℕ) → 0 < i → suc i < length hs → getD vs i 0 ≤ fewer (2 ^ m - 2) (getD hs i 0) 1 (suc (getD hs i 0 - getD hs (suc i) 0))
   pub d : getD vs (length hs - 1) 0 ≤ (2 ^ m - 1) ^ getD hs (length hs - 1) 0 - 1
 
--- how many numbers a generation of h groups holds that leaves h′ of them zero, h′ being the next generation's count and 0 after the last: the sums of b and c, and d's power;
--- e is 2^m − 1, and a written place takes one of b values
+-- b, c and d as one: how many numbers h groups hold that leave h′ of them zero, the next generation's count, which is 0 after the last; e is 2^m − 1, and a written place takes one of b values
 unfoldable pub room : ℕ → ℕ → ℕ → ℕ → ℕ → ℕ
 room e b first h zero = e ^ h - 1
 room e b first h (suc h′) = fewer b h first (suc (h - suc h′))
 
--- the least counts for the ranges, the last found first; fuel bounds the search for each
+-- 01: "every count is the least", the last found first; fuel bounds the search for each
 unfoldable pub counts : ℕ → ℕ → ℕ → ℕ → List ℕ → List ℕ
 counts fuel e b first [] = []
 counts fuel e b first (v ∷ vs) =
     let rest = counts fuel e (e - 1) 1 vs in
     least (λ h. leb v (room e b first h (getD rest 0 0))) (suc (getD rest 0 0)) fuel ∷ rest
 
--- 01: "The granted list is the one whose every count is the least among all lists that meet a to d"; it fits when its first count is at most g
+-- 01: "The granted list is the one whose every count is the least among all lists that meet a to d"
 unfoldable pub grant : ℕ → ℕ → ℕ → List ℕ → List ℕ
 grant g m first vs = counts g (2 ^ m - 1) (2 ^ m - 1) first vs

@@ -1,8 +1,7 @@
 -- A sequence of writes: demand 3 speaks of each write in turn, and a refused one stores nothing.
-use Prim.Native.Nat.{ℕ, zero, suc, _+_, _<_, min}
+use Prim.Native.Nat.{ℕ, zero, suc, _+_}
 use mathlib.Core.Bool.{Bool, true, false}
 use mathlib.Core.List.{List, [], _∷_}
-use lib.ListN.{length, getD}
 use Rattle.code.specs.Field.{Writing, refused, wrote}
 
 -- demand 3: "the j-th write is accepted"
@@ -15,11 +14,12 @@ unfoldable pub kept : List ℕ → Writing → List ℕ
 kept cells refused = cells
 kept cells (wrote i after) = after
 
--- what is left when each number has been tried in turn, where `leaves x cells` is left by one try; and what the tries count in all
+-- "any sequence of numbers", each tried in turn, where `leaves x cells` is left by one try
 unfoldable pub run : (ℕ → List ℕ → List ℕ) → List ℕ → List ℕ → List ℕ
 run leaves cells [] = cells
 run leaves cells (x ∷ xs) = run leaves (leaves x cells) xs
 
+-- 01, Writing: "Over any run .. the turned counts add up"
 unfoldable pub total : (ℕ → List ℕ → ℕ) → (ℕ → List ℕ → List ℕ) → List ℕ → List ℕ → ℕ
 total counts leaves cells [] = 0
 total counts leaves cells (x ∷ xs) = counts x cells + total counts leaves (leaves x cells) xs
@@ -30,15 +30,3 @@ opening zero [] = 0
 opening zero (zero ∷ xs) = suc (opening zero xs)
 opening zero (suc x ∷ xs) = 0
 opening (suc first) xs = 0
-
--- the generations used once x is tried where c of t are
-unfoldable pub next : ℕ → ℕ → ℕ → ℕ → ℕ
-next zero t zero zero = 0
-next zero t zero (suc x) = min t 1
-next zero t (suc c) x = min t (suc (suc c))
-next (suc first) t c x = min t (suc c)
-
--- each number is below the range of the generation that would take it, or none would
-unfoldable pub InRange : ℕ → List ℕ → ℕ → List ℕ → Type 0
-InRange first vs c [] = Unit {0}
-InRange first vs c (x ∷ xs) = (c < length vs → x < getD vs c 0) × InRange first vs (next first (length vs) c x) xs

@@ -2,8 +2,7 @@
 use mathlib.Core.Path.{_≡_, refl, ap, _∙_}
 use mathlib.Core.Logic.{inl, inr}
 use Prim.Native.Nat.{ℕ, zero, suc, _+_, _-_, _*_, _/_, _^_, _≤_, _<_}
-use native.Mathlib.Nat.{pow-zero, pow-suc, mul-le-mul, mul-le-mul-left, le-of-mul-le-mul-right, le-mul-of-pos-right, div-eq-of-eq-mul-left, zero-lt-suc, mul-sub, mul-zero, mul-comm, lt-of-not-le, min-eq-left}
-use native.Mathlib.Decide.{decLe}
+use native.Mathlib.Nat.{pow-zero, pow-suc, mul-le-mul, mul-le-mul-left, le-of-mul-le-mul-right, le-mul-of-pos-right, div-eq-of-eq-mul-left, mul-sub}
 use native.Mathlib.Numerals.{add-one}
 use native.Mathlib.Omega.{arith}
 use Rattle.code.specs.Count.{choose, fewer}
@@ -71,9 +70,9 @@ next-choose n j h = div-eq-of-eq-mul-left (omega arith) (move (choose n j) (n - 
     move : (c d c′ : ℕ) → c′ * suc j ≡ c * d → c * d ≡ c′ * (j + 1)
     move c d c′ e = omega arith
 
--- room for a number below the cap times b, and for the product before the division
-pub small-product : (q b : ℕ) → q < cap → b ≤ 15 → q * b ≤ 2 ^ 56 * 15
-small-product q b h l = mul-le-mul {n₂ = 2 ^ 56} (omega arith) l
+-- room for a number up to the cap times a small one, and for the product before the division
+pub small-product : (most q b : ℕ) → q ≤ cap → b ≤ most → q * b ≤ cap * most
+small-product most q b h l = mul-le-mul h l
 
 pub room : (c n j : ℕ) → (j ≡ 0 → c ≤ 1) → c < cap → n ≤ 256 → c * (n - j) < 2 ^ 64
 room c n zero z h w = omega (arith, mul-le-mul {m₁ = n - 0} {m₂ = 256} (z refl) (omega arith))
@@ -234,28 +233,9 @@ inner-small (suc n) (suc k) p h =
     let v : suc k - 1 ≡ k = omega arith in
     rw (u, v) (omega arith)
 
--- sums and products up to the cap
-big : (x y : ℕ) → cap < x → sat (x * y) ≡ sat (sat x * sat y)
-big x zero h = simp mul-zero
-big x (suc y) h =
-    let p : x ≤ x * suc y = le-mul-of-pos-right x (zero-lt-suc y) in
-    let q : sat x ≤ sat x * sat (suc y) = le-mul-of-pos-right (sat x) (omega arith) in
-    omega arith
-
--- a product up to the cap is told by the factors up to the cap
-pub sat-product : (x y : ℕ) → sat (x * y) ≡ sat (sat x * sat y)
-sat-product x y = go (decLe x cap) (decLe y cap)
-  where
-    go : Dec (x ≤ cap) → Dec (y ≤ cap) → sat (x * y) ≡ sat (sat x * sat y)
-    go (yes p) (yes q) = rw (min-eq-left p, min-eq-left q)
-    go (no p) d = big x y (lt-of-not-le p)
-    go (yes p) (no q) = rw (mul-comm x y, mul-comm (sat x) (sat y)) (big y x (lt-of-not-le q))
-
+-- a sum up to the cap
 pub plus-sat : (x y : ℕ) {r s q : ℕ} → r ≡ sat x → s ≡ sat y → q ≡ sat (r + s) → q ≡ sat (x + y)
 plus-sat x y e f g = omega arith
-
-pub times-sat : (x y : ℕ) {r s q : ℕ} → r ≡ sat x → s ≡ sat y → q ≡ sat (r * s) → q ≡ sat (x * y)
-times-sat x y e f g = g ∙ rw (e, f, ← sat-product x y)
 
 -- one factor b more
 pub power-more : (b x : ℕ) {p : ℕ} → p ≡ b ^ x → p * b ≡ b ^ (x + 1)

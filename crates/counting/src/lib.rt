@@ -57,7 +57,7 @@ pub fn next_term(term: u64, b: u64, s: u64, j: u64) -> u64
     if CAP <= q {
         return CAP;
     }
-    clip(q * b)
+    times(q, b)
 }
 
 // The sum over j = first .. k − 1 of C(s, j) · b^j.
@@ -125,14 +125,12 @@ pub fn power(b: u64, k: u64) -> u64
     r
 }
 
+// A number up to the cap by a small one: the product fits 64 bits.
 pub fn times(a: u64, b: u64) -> u64
-    requires { ⌜ (a ≤ cap) × (b ≤ cap) ⌝ }
+    requires { ⌜ (a ≤ cap) × (b ≤ 255) ⌝ }
     ensures { λ r. ⌜ r ≡ sat (a * b) ⌝ }
 {
-    if b == 0 {
-        return 0;
-    }
-    if a <= CAP / b { a * b } else { CAP }
+    clip(a * b)
 }
 
 pub fn clip(x: u64) -> u64

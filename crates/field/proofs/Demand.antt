@@ -14,6 +14,7 @@ use Rattle.code.specs.Run.{run, total, opening}
 use Rattle.code.specs.Calls.{answer, granted, layoutRefusal, left, readReply, writeRefusal, writeReply, writeLeaves}
 use Rattle.code.proofs.Wits.{Bytes}
 use Rattle.code.proofs.Bytes.{tried-is}
+use Rattle.code.proofs.Run.{run-more, total-more}
 use Rattle.code.proofs.Replies.{write-no-layout}
 use Rattle.code.proofs.Demand as Code
 use Rattle.field.specs.declared.Reading.{Reading}
@@ -81,20 +82,6 @@ module _ (m t v x : ℕ) (bs : List ℕ) (B : Bytes bs) (r : Writing) (after : L
   turned-are i n made =
       let q : 0 ∷ i ∷ n ∷ [] ≡ writeReply m t v x bs = rw made at (promise .0) in
       rw (turns-is m t v x bs (Written i n) q, promise .1) (Code.turned-are m t v (granted-first m t v x i n bs q) x bs B)
-
--- the cells and the count after one number more
-run-more : (f : ℕ → List ℕ → List ℕ) (bs xs : List ℕ) (j : ℕ) → j < length xs → run f bs (take (suc j) xs) ≡ f (getD xs j 0) (run f bs (take j xs))
-unfolding run
-run-more f bs [] j l = absurd (omega arith)
-run-more f bs (x ∷ xs) zero l = refl
-run-more f bs (x ∷ xs) (suc j) l = run-more f (f x bs) xs j (omega arith)
-
-total-more : (c : ℕ → List ℕ → ℕ) (f : ℕ → List ℕ → List ℕ) (bs xs : List ℕ) (j : ℕ) → j < length xs
-    → total c f bs (take (suc j) xs) ≡ total c f bs (take j xs) + c (getD xs j 0) (run f bs (take j xs))
-unfolding run total
-total-more c f bs [] j l = absurd (omega arith)
-total-more c f bs (x ∷ xs) zero l = omega arith
-total-more c f bs (x ∷ xs) (suc j) l = omega (arith, total-more c f (f x bs) xs j (omega arith))
 
 -- A run of calls from blank cells: call j gets the cells that the call before left, and its answer is one that its promise allows.
 pub record Calls (m t v : ℕ) (xs : List ℕ) (cells : ℕ → List ℕ) (answers : ℕ → Writing) : Type 0 where

@@ -49,12 +49,12 @@ fewer-spec =
     (λ c.
     let s = c .before .before .loop in
     let a = c .before .before .before .before .before .args in
-    omega (arith, small-product (s .term * (a .s - s .j) / (s .j + 1)) (a .b) (omega arith) (omega arith)))
+    omega (arith, small-product 15 (s .term * (a .s - s .j) / (s .j + 1)) (a .b) (omega arith) (omega arith)))
     -- add-sum
     (λ c.
     let s = c .before .before .loop in
     let a = c .before .before .before .before .before .args in
-    omega (arith, small-product (s .term * (a .s - s .j) / (s .j + 1)) (a .b) (omega arith) (omega arith)))
+    omega (arith, small-product 15 (s .term * (a .s - s .j) / (s .j + 1)) (a .b) (omega arith) (omega arith)))
     -- returns-3
     (λ c.
     let s = c .before .before .before .loop in

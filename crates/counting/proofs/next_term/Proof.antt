@@ -3,7 +3,7 @@ use mathlib.Core.Path.{refl}
 use Prim.Native.Nat.{_+_, _-_, _*_, _/_}
 use native.Mathlib.Omega.{arith}
 use borrow.Author.Needs.{needs}
-use Rattle.counting.proofs.Laws.{small-product, term-room, term-next, term-far}
+use Rattle.counting.proofs.Laws.{term-room, term-next, term-far}
 use Rattle.counting.proofs.next_term.Statement.{statement}
 use Rattle.counting.proofs.next_term.Tie as tie
 
@@ -23,13 +23,9 @@ next-term-spec =
     (λ c.
     let s = c .before in
     omega (arith, term-far (s .args .b) (s .args .s) (s .args .j) (s .args .term) (s .pre .5) _ (omega arith) refl (omega arith) (omega arith)))
-    -- mul-clip
-    (λ c.
-    let a = c .before .args in
-    omega (arith, small-product (a .term * (a .s - a .j) / (a .j + 1)) (a .b) (omega arith) (omega arith)))
-    -- clip-requires
+    -- times-requires
     (λ c κs. search needs)
     -- returns-2
     (λ c.
     let s = c .before .before in
-    rw (term-next (s .args .b) (s .args .s) (s .args .j) (s .args .term) (s .pre .5) _ (omega arith) refl) at (c .clip .ensures)))
+    rw (term-next (s .args .b) (s .args .s) (s .args .j) (s .args .term) (s .pre .5) _ (omega arith) refl) at (c .times .ensures)))

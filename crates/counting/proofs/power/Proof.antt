@@ -27,7 +27,7 @@ power-spec =
     (λ c.
     let s = c .before .loop in
     let a = c .before .before .args in
-    omega (arith, small-product (s .r) (a .b) (omega arith) (omega arith)))
+    omega (arith, small-product 15 (s .r) (a .b) (omega arith) (omega arith)))
     -- returns
     (λ c.
     let s = c .before .before .loop in

@@ -1,7 +1,7 @@
 -- `counting::times` meets its contract. Assumes nothing.
-use native.Mathlib.Nat.{mul-zero, le-div-iff-mul-le, div-lt-iff-lt-mul, pos-of-ne-zero}
 use native.Mathlib.Omega.{arith}
 use borrow.Author.Needs.{needs}
+use Rattle.counting.proofs.Laws.{small-product}
 use Rattle.counting.proofs.times.Statement.{statement}
 use Rattle.counting.proofs.times.Tie as tie
 
@@ -9,13 +9,9 @@ pub times-spec : {M : Type 1} → statement M
 times-spec =
     tie.close
     (tie.spec
+    -- mul-clip
+    (λ c. omega (arith, small-product 255 (c .args .a) (c .args .b) (omega arith) (omega arith)))
+    -- clip-requires
+    (λ c κs. search needs)
     -- returns
-    (λ c. rw (c .if1 .taken, mul-zero))
-    -- div-if2
-    (λ c. search needs)
-    -- mul-result
-    (λ c. omega (arith, le-div-iff-mul-le (pos-of-ne-zero (c .before .if1 .left)) .0 (c .if2 .taken)))
-    -- returns-2
-    (λ c. omega (arith, le-div-iff-mul-le (pos-of-ne-zero (c .before .if1 .left)) .0 (c .if2 .taken)))
-    -- returns-3
-    (λ c. omega (arith, div-lt-iff-lt-mul (pos-of-ne-zero (c .before .if1 .left)) .0 (c .if2 .left))))
+    (λ c. search needs))

@@ -3,7 +3,6 @@
 use mathlib.Core.Path.{refl, sym}
 use native.Mathlib.Omega.{arith}
 use borrow.Author.Needs.{needs}
-use lib.ListN.{length-take}
 use lib.Seq.{length-take-le}
 use Rattle.field.proofs.Drawing.{rewritable, leaves}
 use Rattle.field.proofs.put.Statement.{statement}

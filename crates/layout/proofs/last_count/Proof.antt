@@ -25,7 +25,7 @@ last-count-spec =
     (λ c.
     let p = c .before .loop .p in
     let e = c .before .before .args .e in
-    omega (arith, small-product p e (omega arith) (omega arith)))
+    omega (arith, small-product 15 p e (omega arith) (omega arith)))
     -- add-x
     (λ c. omega arith)
     -- loop-less
