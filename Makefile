@@ -12,6 +12,7 @@ test:
 	@cd second && cargo test --release --offline --quiet && cargo build --release --offline --quiet
 	@rt check fieldlist gorvlime
 	@tests/run-listings
+	@tests/run-values
 	@rt staticlib gorvlime
 	@tests/run-calls
 	@tools/frames target/staticlib/libgorvlime.a --depth rank_from=37 --limit 4096 --limit gorvlime_layout=1024
