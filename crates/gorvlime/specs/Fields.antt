@@ -5,10 +5,10 @@ use mathlib.Core.List.{List, [], _∷_, _++_}
 use lib.Dec.{ltb}
 use lib.ListN.{length, getD, take, drop}
 use Rattle.code.specs.Calls.{filled}
-use Rattle.gorvlime.specs.declared.ReadAnswer.{ReadAnswer}
-use Rattle.gorvlime.specs.declared.WriteAnswer.{WriteAnswer}
-use Rattle.gorvlime.specs.declared.ExportAnswer.{ExportAnswer}
-use Rattle.gorvlime.specs.declared.StepAnswer.{StepAnswer}
+use Rattle.gorvlime.specs.declared.c.ReadAnswer.{ReadAnswer}
+use Rattle.gorvlime.specs.declared.c.WriteAnswer.{WriteAnswer}
+use Rattle.gorvlime.specs.declared.c.ExportAnswer.{ExportAnswer}
+use Rattle.gorvlime.specs.declared.c.StepAnswer.{StepAnswer}
 
 abbrev pub readingFields : ReadAnswer → List ℕ
 readingFields r = r .refusal ∷ r .generation ∷ r .number ∷ r .left ∷ []

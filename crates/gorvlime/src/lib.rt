@@ -1,227 +1,68 @@
-// The public calls for C: each answers for all inputs, and its promise is as full as that of the call below it.
+// The public calls: each answers for all inputs, and its promise fixes the answer and all that it is lent.
+pub mod c;
+
+use dump::Exported;
+use dump::Step;
+use dump::Walked;
+use field::Reading;
+use field::Writing;
+use layout::Layout;
 ghost use mathlib.Core.Path.{_≡_};
 ghost use mathlib.Core.List.{_∷_};
+ghost use lib.ListN.{take, drop};
 ghost use Rattle.code.specs.Calls.{filled, layoutReply, readReply, writeReply, writeLeaves};
-ghost use Rattle.field.specs.Answers.{readingOf, writingOf};
-ghost use Prim.Native.Nat.{_+_, _^_, _<_};
-ghost use lib.ListN.{getD, replicate};
 ghost use Rattle.code.specs.Dump.{exportReply, exportLeaves, stepReply, walkReply, walkLeaves};
-ghost use Rattle.dump.specs.Answers.{exportedOf, haltOf, stepOf, walkedOf};
-ghost use Rattle.gorvlime.specs.Fields.{readingFields, writingFields, exportFields, stepFields, foundFields};
+ghost use Rattle.field.specs.Answers.{readingOf, writingOf};
+ghost use Rattle.dump.specs.Answers.{exportedOf, stepOf, walkedOf};
 
-#[repr(C)]
-pub struct ReadAnswer {
-    pub refusal: u64,
-    pub generation: u64,
-    pub number: u64,
-    pub left: u64,
-}
-
-#[repr(C)]
-pub struct WriteAnswer {
-    pub refusal: u64,
-    pub generation: u64,
-    pub turned: u64,
-}
-
-#[no_mangle]
-pub extern "C" fn gorvlime_layout(m: u64, t: u64, v: u64, g: u64) -> layout::Layout
+// The counts of a field in g groups.
+pub fn lay_out(m: u64, t: u64, v: u64, g: u64) -> Layout
     ensures { λ r. ⌜ (r .refusal ∷ r .h) ≡ filled 17 (layoutReply m t v g) ⌝ }
 {
     layout::lay_out(m, t, v, g)
 }
 
-fn flat_reading(a: field::Reading) -> ReadAnswer
-    ensures { λ r. ⌜ readingFields r ≡ filled 4 (readingOf a) ⌝ }
+// The number in a field.
+pub fn read(m: u64, t: u64, v: u64, cells: &[u8]) -> Reading
+    ensures { λ r. ⌜ readingOf r ≡ readReply m t v (now (cells .entry)) ⌝ }
 {
-    match a {
-        field::Reading::Read {
-            generation,
-            number,
-            left,
-        } => ReadAnswer {
-            refusal: 0,
-            generation,
-            number,
-            left,
-        },
-        field::Reading::Refused(k) => ReadAnswer {
-            refusal: k,
-            generation: 0,
-            number: 0,
-            left: 0,
-        },
-    }
+    field::read(m, t, v, cells)
 }
 
-#[no_mangle]
-pub extern "C" fn gorvlime_read(m: u64, t: u64, v: u64, cells: &[u8]) -> ReadAnswer
-    ensures { λ r. ⌜ readingFields r ≡ filled 4 (readReply m t v (now (cells .entry))) ⌝ }
+// A new number in a field.
+pub fn write(m: u64, t: u64, v: u64, cells: &mut [u8], number: u64) -> Writing
+    ensures { λ r. ⌜ writingOf r ≡ writeReply m t v number (now (cells .entry)) ⌝ }
+    ensures { λ r. ⌜ now (cells .exit) ≡ writeLeaves m t v number (now (cells .entry)) ⌝ }
 {
-    flat_reading(field::read(m, t, v, cells))
+    field::write(m, t, v, cells, number)
 }
 
-fn flat_writing(a: field::Writing) -> WriteAnswer
-    ensures { λ r. ⌜ writingFields r ≡ filled 3 (writingOf a) ⌝ }
+// The record of a field, at the front of the output.
+pub fn export(serial: u64, m: u64, t: u64, v: u64, cells: &[u8], out: &mut [u8]) -> Exported
+    ensures { λ r. ⌜ exportedOf r ≡ exportReply serial m t v (now (cells .entry)) (now (out .entry)) ⌝ }
+    ensures { λ r. ⌜ now (out .exit) ≡ exportLeaves serial m t v (now (cells .entry)) (now (out .entry)) ⌝ }
 {
-    match a {
-        field::Writing::Written { generation, turned } => WriteAnswer {
-            refusal: 0,
-            generation,
-            turned,
-        },
-        field::Writing::Refused(k) => WriteAnswer {
-            refusal: k,
-            generation: 0,
-            turned: 0,
-        },
-    }
+    dump::export(serial, m, t, v, cells, out)
 }
 
-#[no_mangle]
-pub extern "C" fn gorvlime_write(
-    m: u64,
-    t: u64,
-    v: u64,
-    cells: &mut [u8],
-    number: u64,
-) -> WriteAnswer
-    ensures { λ r. ⌜ (writingFields r ≡ filled 3 (writeReply m t v number (now (cells .entry)))) × (now (cells .exit) ≡ writeLeaves m t v number (now (cells .entry))) ⌝ }
+// The record at a place of a dump.
+pub fn step(bytes: &[u8], at: usize) -> Step
+    ensures { λ r. ⌜ stepOf r ≡ stepReply (now (bytes .entry)) at ⌝ }
 {
-    flat_writing(field::write(m, t, v, cells, number))
+    dump::step_at(bytes, at)
 }
 
-#[repr(C)]
-pub struct ExportAnswer {
-    pub refusal: u64,
-    pub length: u64,
-}
-
-fn flat_export(a: dump::Exported) -> ExportAnswer
-    ensures { λ r. ⌜ exportFields r ≡ filled 2 (exportedOf a) ⌝ }
+// The cells of a record that a step gives, as a part of its dump.
+pub fn part(bytes: &[u8], start: usize, count: usize) -> &[u8]
+    ensures { λ r. ⌜ now r ≡ take count (drop start (now (bytes .entry))) ⌝ }
 {
-    match a {
-        dump::Exported::Stored(n) => ExportAnswer {
-            refusal: 0,
-            length: n as u64,
-        },
-        dump::Exported::Refused(k) => ExportAnswer {
-            refusal: k,
-            length: 0,
-        },
-    }
+    records::part(bytes, start, count)
 }
 
-#[no_mangle]
-pub extern "C" fn gorvlime_export(
-    serial: u64,
-    m: u64,
-    t: u64,
-    v: u64,
-    cells: &[u8],
-    out: &mut [u8],
-) -> ExportAnswer
-    ensures { λ r. ⌜ (exportFields r ≡ filled 2 (exportReply serial m t v (now (cells .entry)) (now (out .entry)))) × (now (out .exit) ≡ exportLeaves serial m t v (now (cells .entry)) (now (out .entry))) ⌝ }
-{
-    flat_export(dump::export(serial, m, t, v, cells, out))
-}
-
-#[repr(C)]
-pub struct StepAnswer {
-    pub refusal: u64,
-    pub offset: u64,
-    pub records: u64,
-    pub serial: u64,
-    pub m: u64,
-    pub t: u64,
-    pub v: u64,
-    pub start: u64,
-    pub length: u64,
-    pub next: u64,
-    pub refused: u64,
-    pub generation: u64,
-    pub number: u64,
-    pub left: u64,
-}
-
-// A step that gives no record.
-fn no_record(refusal: u64, offset: u64) -> StepAnswer
-    ensures { λ r. ⌜ stepFields r ≡ refusal ∷ offset ∷ replicate 12 0 ⌝ }
-{
-    StepAnswer {
-        refusal,
-        offset,
-        records: 0,
-        serial: 0,
-        m: 0,
-        t: 0,
-        v: 0,
-        start: 0,
-        length: 0,
-        next: 0,
-        refused: 0,
-        generation: 0,
-        number: 0,
-        left: 0,
-    }
-}
-
-fn flat_halt(halt: dump::Halt) -> StepAnswer
-    ensures { λ r. ⌜ stepFields r ≡ foundFields (haltOf halt) ⌝ }
-{
-    match halt {
-        dump::Halt::Malformed { offset } => no_record(7, offset as u64),
-        dump::Halt::Oversize => no_record(8, 0),
-    }
-}
-
-fn flat_step(a: dump::Step) -> StepAnswer
-    requires { ⌜ getD (stepOf a) 5 0 + getD (stepOf a) 6 0 < 2 ^ 64 ⌝ }
-    ensures { λ r. ⌜ stepFields r ≡ foundFields (stepOf a) ⌝ }
-{
-    match a {
-        dump::Step::Record {
-            serial,
-            m,
-            t,
-            v,
-            start,
-            count,
-            outcome,
-        } => {
-            let o = flat_reading(outcome);
-            StepAnswer {
-                refusal: 0,
-                offset: 0,
-                records: 1,
-                serial,
-                m,
-                t,
-                v,
-                start: start as u64,
-                length: count as u64,
-                next: (start + count) as u64,
-                refused: o.refusal,
-                generation: o.generation,
-                number: o.number,
-                left: o.left,
-            }
-        }
-        dump::Step::End => no_record(0, 0),
-        dump::Step::Stop(halt) => flat_halt(halt),
-    }
-}
-
-#[no_mangle]
-pub extern "C" fn gorvlime_step(bytes: &[u8], at: usize) -> StepAnswer
-    ensures { λ r. ⌜ stepFields r ≡ foundFields (stepReply (now (bytes .entry)) at) ⌝ }
-{
-    flat_step(dump::step_at(bytes, at))
-}
-
-#[no_mangle]
-pub extern "C" fn gorvlime_walk(bytes: &[u8], at: usize, rows: &mut [u64]) -> dump::Walked
-    ensures { λ r. ⌜ (walkedOf r ≡ walkReply (now (bytes .entry)) at (now (rows .entry))) × (now (rows .exit) ≡ walkLeaves (now (bytes .entry)) at (now (rows .entry))) ⌝ }
+// The records from a place of a dump on, ten numbers each, as many as fit into the rows.
+pub fn walk(bytes: &[u8], at: usize, rows: &mut [u64]) -> Walked
+    ensures { λ r. ⌜ walkedOf r ≡ walkReply (now (bytes .entry)) at (now (rows .entry)) ⌝ }
+    ensures { λ r. ⌜ now (rows .exit) ≡ walkLeaves (now (bytes .entry)) at (now (rows .entry)) ⌝ }
 {
     dump::walk(bytes, at, rows)
 }

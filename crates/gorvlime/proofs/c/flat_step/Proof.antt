@@ -1,10 +1,10 @@
--- `gorvlime::flat_step` meets its contract, case by case. Assumes nothing.
+-- `gorvlime::c::flat_step` meets its contract, case by case. Assumes nothing.
 use mathlib.Core.Path.{_∙_}
 use native.Mathlib.Omega.{arith}
 use borrow.Author.Needs.{needs}
 use Rattle.gorvlime.proofs.Laws.{found-record, found-none}
-use Rattle.gorvlime.proofs.flat_step.Statement.{statement}
-use Rattle.gorvlime.proofs.flat_step.Tie as tie
+use Rattle.gorvlime.proofs.c.flat_step.Statement.{statement}
+use Rattle.gorvlime.proofs.c.flat_step.Tie as tie
 
 pub flat-step-spec : {M : Type 1} → statement M
 flat-step-spec =

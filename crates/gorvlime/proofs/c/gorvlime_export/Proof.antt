@@ -1,9 +1,9 @@
--- `gorvlime::gorvlime_export` meets its contract: the export's reply in two fields, and its output. Assumes nothing.
+-- `gorvlime::c::gorvlime_export` meets its contract: the export's reply in two fields, and its output. Assumes nothing.
 use mathlib.Core.Path.{ap, _∙_}
 use borrow.Author.Needs.{needs}
 use Rattle.code.specs.Calls.{filled}
-use Rattle.gorvlime.proofs.gorvlime_export.Statement.{statement}
-use Rattle.gorvlime.proofs.gorvlime_export.Tie as tie
+use Rattle.gorvlime.proofs.c.gorvlime_export.Statement.{statement}
+use Rattle.gorvlime.proofs.c.gorvlime_export.Tie as tie
 
 pub gorvlime-export-spec : {M : Type 1} → statement M
 gorvlime-export-spec =

@@ -1,8 +1,8 @@
--- `gorvlime::flat_reading` meets its contract, case by case. Assumes nothing.
+-- `gorvlime::c::flat_reading` meets its contract, case by case. Assumes nothing.
 use borrow.Author.Needs.{needs}
 use Rattle.code.specs.Calls.{filled}
-use Rattle.gorvlime.proofs.flat_reading.Statement.{statement}
-use Rattle.gorvlime.proofs.flat_reading.Tie as tie
+use Rattle.gorvlime.proofs.c.flat_reading.Statement.{statement}
+use Rattle.gorvlime.proofs.c.flat_reading.Tie as tie
 
 pub flat-reading-spec : {M : Type 1} → statement M
 unfolding filled

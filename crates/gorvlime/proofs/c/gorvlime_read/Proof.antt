@@ -1,9 +1,9 @@
--- `gorvlime::gorvlime_read` meets its contract: the reading's reply in four fields. Assumes nothing.
+-- `gorvlime::c::gorvlime_read` meets its contract: the reading's reply in four fields. Assumes nothing.
 use mathlib.Core.Path.{ap, _∙_}
 use borrow.Author.Needs.{needs}
 use Rattle.code.specs.Calls.{filled}
-use Rattle.gorvlime.proofs.gorvlime_read.Statement.{statement}
-use Rattle.gorvlime.proofs.gorvlime_read.Tie as tie
+use Rattle.gorvlime.proofs.c.gorvlime_read.Statement.{statement}
+use Rattle.gorvlime.proofs.c.gorvlime_read.Tie as tie
 
 pub gorvlime-read-spec : {M : Type 1} → statement M
 gorvlime-read-spec =

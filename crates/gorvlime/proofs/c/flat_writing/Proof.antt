@@ -1,8 +1,8 @@
--- `gorvlime::flat_writing` meets its contract, case by case. Assumes nothing.
+-- `gorvlime::c::flat_writing` meets its contract, case by case. Assumes nothing.
 use borrow.Author.Needs.{needs}
 use Rattle.code.specs.Calls.{filled}
-use Rattle.gorvlime.proofs.flat_writing.Statement.{statement}
-use Rattle.gorvlime.proofs.flat_writing.Tie as tie
+use Rattle.gorvlime.proofs.c.flat_writing.Statement.{statement}
+use Rattle.gorvlime.proofs.c.flat_writing.Tie as tie
 
 pub flat-writing-spec : {M : Type 1} → statement M
 unfolding filled

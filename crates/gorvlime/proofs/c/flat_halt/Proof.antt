@@ -1,9 +1,9 @@
--- `gorvlime::flat_halt` meets its contract, case by case. Assumes nothing.
+-- `gorvlime::c::flat_halt` meets its contract, case by case. Assumes nothing.
 use mathlib.Core.Path.{_∙_}
 use borrow.Author.Needs.{needs}
 use Rattle.gorvlime.proofs.Laws.{found-none, found-offset}
-use Rattle.gorvlime.proofs.flat_halt.Statement.{statement}
-use Rattle.gorvlime.proofs.flat_halt.Tie as tie
+use Rattle.gorvlime.proofs.c.flat_halt.Statement.{statement}
+use Rattle.gorvlime.proofs.c.flat_halt.Tie as tie
 
 pub flat-halt-spec : {M : Type 1} → statement M
 flat-halt-spec =

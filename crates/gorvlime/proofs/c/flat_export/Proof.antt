@@ -1,8 +1,8 @@
--- `gorvlime::flat_export` meets its contract, case by case. Assumes nothing.
+-- `gorvlime::c::flat_export` meets its contract, case by case. Assumes nothing.
 use borrow.Author.Needs.{needs}
 use Rattle.code.specs.Calls.{filled}
-use Rattle.gorvlime.proofs.flat_export.Statement.{statement}
-use Rattle.gorvlime.proofs.flat_export.Tie as tie
+use Rattle.gorvlime.proofs.c.flat_export.Statement.{statement}
+use Rattle.gorvlime.proofs.c.flat_export.Tie as tie
 
 pub flat-export-spec : {M : Type 1} → statement M
 unfolding filled

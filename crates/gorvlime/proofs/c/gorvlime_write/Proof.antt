@@ -1,9 +1,9 @@
--- `gorvlime::gorvlime_write` meets its contract: the write's reply in three fields, and its cells. Assumes nothing.
+-- `gorvlime::c::gorvlime_write` meets its contract: the write's reply in three fields, and its cells. Assumes nothing.
 use mathlib.Core.Path.{ap, _∙_}
 use borrow.Author.Needs.{needs}
 use Rattle.code.specs.Calls.{filled}
-use Rattle.gorvlime.proofs.gorvlime_write.Statement.{statement}
-use Rattle.gorvlime.proofs.gorvlime_write.Tie as tie
+use Rattle.gorvlime.proofs.c.gorvlime_write.Statement.{statement}
+use Rattle.gorvlime.proofs.c.gorvlime_write.Tie as tie
 
 pub gorvlime-write-spec : {M : Type 1} → statement M
 gorvlime-write-spec =
