@@ -11,6 +11,7 @@ pub mod Bits
 pub mod Wits
 pub mod Numbers
 pub mod Cells
+pub mod Placed
 pub mod Bytes
 pub mod Calls
 pub mod Demand

@@ -1,5 +1,4 @@
 -- `field::base` meets its contract: the definition, at each place. Assumes nothing.
-use Prim.Native.Nat.{_-_}
 use native.Mathlib.Omega.{arith}
 use borrow.Author.Needs.{needs}
 use Rattle.field.proofs.Laws.{base-first, base-later}
