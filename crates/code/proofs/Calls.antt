@@ -1,8 +1,8 @@
 -- The replies of layout, read and write, and demand 3 of them.
-use Prim.Native.Nat.{ℕ, _-_, _^_, _≤_, _<_}
+use Prim.Native.Nat.{ℕ, suc, _^_, _≤_, _<_}
 use mathlib.Core.Path.{_≡_, refl, _∙_}
 use mathlib.Core.Logic.{inl, inr}
-use mathlib.Core.Bool.{Bool, true, false, cond, _&&_}
+use mathlib.Core.Bool.{Bool, true, false, _&&_}
 use mathlib.Core.List.{List, [], _∷_}
 use native.Mathlib.Omega.{arith}
 use lib.ListN.{length, getD, replicate, length-replicate, getD-replicate, List·getD-eq-default}
@@ -44,15 +44,17 @@ pub within-outside : (m t v g : ℕ) → Within m t v g → outside m t v g ≡ 
 unfolding outside
 within-outside m t v g w = rw (le-leb 2 m (w .m-low), le-leb m 4 (w .m-high), le-leb 2 t (w .t-low), le-leb t 16 (w .t-high), le-leb 2 v (w .v-low), le-leb v (2 ^ 56) (w .v-high), le-leb g 256 (w .g-high))
 
--- no test holds of two
-none-of-two : (a b : Bool) → _≡_ {A = ℕ} (cond a 1 (cond b 2 0)) 0 → (a ≡ false) × (b ≡ false)
-none-of-two true b h = absurd (omega arith)
-none-of-two false true h = absurd (omega arith)
-none-of-two false false h = (refl, refl)
+-- a test that is passed, and those after it
+pub passed : (k : ℕ) (b : Bool) (tests : List (ℕ × Bool)) → refusal ((suc k, b) ∷ tests) ≡ 0 → (b ≡ false) × (refusal tests ≡ 0)
+unfolding refusal
+passed k true tests h = absurd (omega arith)
+passed k false tests h = (refl, h)
 
 pub layout-none : (m t v g : ℕ) → layoutRefusal m t v g ≡ 0 → (outside m t v g ≡ false) × (misfit g (granted m t v g) ≡ false)
-unfolding layoutRefusal refusal
-layout-none m t v g ok = none-of-two (outside m t v g) (misfit g (granted m t v g)) ok
+unfolding layoutRefusal
+layout-none m t v g ok =
+    let a = passed 0 (outside m t v g) ((2, misfit g (granted m t v g)) ∷ []) ok in
+    (a .0, passed 1 (misfit g (granted m t v g)) [] (a .1) .0)
 
 -- Which writes are accepted on groups, where all ranges are v: the last three tests.
 abbrev last-tests : ℕ → ℕ → ℕ → Reading → ℕ

@@ -5,7 +5,7 @@ use mathlib.Core.Bool.{true, false}
 use mathlib.Core.List.{List, [], _∷_, _++_}
 use native.Mathlib.Omega.{arith}
 use native.Mathlib.Nat.{sub-zero, suc-sub-suc}
-use lib.ListN.{length, getD, take, replicate, length-replicate}
+use lib.ListN.{length, getD, take, replicate, length-take, length-append, length-replicate}
 use lib.Seq.{take-at}
 use borrow.Author.Tests.{lt-ltb, le-ltb, ltb-false}
 use Rattle.code.specs.Calls.{filled, refusal, answer, outside, misfit, granted, layoutRefusal, layoutReply}
@@ -26,6 +26,10 @@ zeros-behind [] (suc n) zero = refl
 zeros-behind [] (suc n) (suc i) = zeros-behind [] n i
 zeros-behind (x ∷ xs) n zero = refl
 zeros-behind (x ∷ xs) n (suc i) = zeros-behind xs n i
+
+pub filled-length : (n : ℕ) (reply : List ℕ) → length (filled n reply) ≡ n
+unfolding filled
+filled-length n reply = simp (length-take, length-append, length-replicate) (omega arith)
 
 pub granted-length : (m t v g : ℕ) → length (granted m t v g) ≡ t
 unfolding granted

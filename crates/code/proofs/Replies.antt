@@ -1,6 +1,6 @@
 -- The replies of read and write, test by test, as a program comes to them.
-use Prim.Native.Nat.{ℕ, suc, _-_, _^_, _≤_, _<_}
-use mathlib.Core.Path.{_≡_, refl, _∙_}
+use Prim.Native.Nat.{ℕ, zero, suc, _-_, _^_, _≤_, _<_}
+use mathlib.Core.Path.{_≡_, _∙_}
 use mathlib.Core.Bool.{Bool, true, false}
 use mathlib.Core.List.{List, [], _∷_}
 use native.Mathlib.Omega.{arith}
@@ -11,6 +11,8 @@ use Rattle.code.specs.Cells.{opened, sound, stored, turned}
 use Rattle.code.specs.Field.{unread, reads, read, wrote, write}
 use Rattle.code.specs.Run.{kept}
 use Rattle.code.specs.Calls.{readCells, storing, writeCells, refusal, answer, outside, misfit, granted, layoutRefusal, fieldRead, fieldWrite, unsound, unreadable, generation, readRefusal, readReply, writeRefusal, madeAt, writeReply, writeLeaves}
+use Rattle.code.proofs.Tests.{clash}
+use Rattle.code.proofs.Calls.{passed}
 
 -- the first two tests are the layout's
 pub refused-early : (a b : Bool) (k : ℕ) (tests : List (ℕ × Bool)) → refusal ((1, a) ∷ (2, b) ∷ []) ≡ suc k → refusal ((1, a) ∷ (2, b) ∷ tests) ≡ suc k
@@ -21,11 +23,21 @@ refused-early false false k tests h = absurd (omega arith)
 
 pub passed-early : (a b : Bool) (tests : List (ℕ × Bool)) → refusal ((1, a) ∷ (2, b) ∷ []) ≡ 0 → refusal ((1, a) ∷ (2, b) ∷ tests) ≡ refusal tests
 unfolding refusal
-passed-early true b tests h = absurd (omega arith)
-passed-early false true tests h = absurd (omega arith)
-passed-early false false tests h = refl
+passed-early a b tests h =
+    let p = passed 0 a ((2, b) ∷ []) h in
+    rw (p .0, passed 1 b [] (p .1) .0)
+
+-- where an answer has values, a reply of one number is a refusal
+refusing : (n x k : ℕ) (values : List ℕ) → answer n (x ∷ values) ≡ k ∷ [] → 0 < k
+unfolding answer
+refusing zero x k values e = clash (cc)
+refusing (suc n) x k values e = let q : suc n ≡ k = cc in omega arith
 
 module _ (m t v : ℕ) (bs : List ℕ) where
+  pub read-refusing : (k : ℕ) → readReply m t v bs ≡ k ∷ [] → 0 < k
+  unfolding readReply
+  read-refusing k e = refusing (readRefusal m t v bs) _ k _ e
+
   answered-refusal : (k : ℕ) → readRefusal m t v bs ≡ suc k → readReply m t v bs ≡ suc k ∷ []
   unfolding readReply answer
   answered-refusal k q = rw q

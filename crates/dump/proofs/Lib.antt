@@ -1,5 +1,5 @@
+pub mod Steps
 pub mod Walking
-pub mod Telling
 pub mod Unique
 pub mod Runs
 pub mod Returns

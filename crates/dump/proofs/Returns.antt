@@ -1,7 +1,6 @@
 -- An exported record walks back.
 use Prim.Native.Nat.{ℕ, zero, suc, _+_, _-_, _^_, _≤_}
 use mathlib.Core.Path.{_≡_, refl, _∙_}
-use mathlib.Core.Bool.{Bool, true, false}
 use mathlib.Core.List.{List, [], _∷_, _++_}
 use native.Mathlib.Omega.{arith}
 use native.Mathlib.Nat.{zero-add}
@@ -9,19 +8,13 @@ use lib.Dec.{ltb}
 use lib.ListN.{length, take, drop}
 use borrow.Author.Tests.{ltb-false}
 use Rattle.code.specs.Lists.{Below}
-use Rattle.code.specs.Calls.{refusal, answer, outside, readReply}
+use Rattle.code.specs.Calls.{answer, outside, readReply}
 use Rattle.code.specs.Dump.{recordOf, exportRefusal, exportReply, exportLeaves, outcome, stepReply}
 use Rattle.code.proofs.Tests.{clash}
-use Rattle.code.proofs.Calls.{outside-within}
+use Rattle.code.proofs.Calls.{outside-within, passed}
 use Rattle.code.proofs.Records.{head, record-length, record-stands}
 use Rattle.dump.specs.Answers.{exportedOf}
 use Rattle.dump.specs.declared.Exported.the-variants.{Stored}
-
--- a test that did not hold, and those after it
-passed : (k : ℕ) (b : Bool) (tests : List (ℕ × Bool)) → refusal ((suc k, b) ∷ tests) ≡ 0 → (b ≡ false) × (refusal tests ≡ 0)
-unfolding refusal
-passed k true tests e = absurd (omega arith)
-passed k false tests e = (refl, e)
 
 module _ (serial m t v : ℕ) (cells out : List ℕ) (n : ℕ) (after : List ℕ)
     (stored : exportedOf (Stored n) ≡ exportReply serial m t v cells out) (left : after ≡ exportLeaves serial m t v cells out) where

@@ -2,6 +2,7 @@
 use Prim.Native.Nat.{ℕ}
 use mathlib.Core.Path.{_≡_}
 use mathlib.Core.List.{List, [], _∷_}
+use lib.ListN.{getD}
 use Rattle.code.specs.Calls.{filled, layoutReply}
 use Rattle.field.specs.Answers.{readingOf}
 use Rattle.dump.specs.declared.Exported.{Exported}
@@ -18,9 +19,16 @@ exportedOf (Stored n) = 0 ∷ n ∷ []
 exportedOf (Refused k) = k ∷ []
 
 -- "A refusal carries its number only (7 also the offset of the record's first byte)"
+abbrev pub haltNumber : Halt → ℕ
+haltNumber (Malformed offset) = 7
+haltNumber Oversize = 8
+
+abbrev pub haltCarries : Halt → List ℕ
+haltCarries (Malformed offset) = offset ∷ []
+haltCarries Oversize = []
+
 abbrev pub haltOf : Halt → List ℕ
-haltOf (Malformed offset) = 7 ∷ offset ∷ []
-haltOf Oversize = 8 ∷ []
+haltOf halt = haltNumber halt ∷ haltCarries halt
 
 abbrev pub stepOf : Step → List ℕ
 stepOf (Record serial m t v start count outcome) = 0 ∷ serial ∷ m ∷ t ∷ v ∷ start ∷ count ∷ readingOf outcome
@@ -43,5 +51,4 @@ walkedOf r = r .refusal ∷ r .offset ∷ r .rows ∷ r .next ∷ r .ended ∷ [
 
 -- what a walk answers that stops where the next step would start, after so many rows
 abbrev pub haltedBy : ℕ → ℕ → Halt → List ℕ
-haltedBy next rows (Malformed offset) = 7 ∷ offset ∷ rows ∷ next ∷ 0 ∷ []
-haltedBy next rows Oversize = 8 ∷ 0 ∷ rows ∷ next ∷ 0 ∷ []
+haltedBy next rows halt = haltNumber halt ∷ getD (haltCarries halt) 0 0 ∷ rows ∷ next ∷ 0 ∷ []

@@ -1,17 +1,14 @@
-// Document 01, "Dumps": export, one step of the walk, the walk, and the text of a listing.
+// Document 01, "Dumps": export, one step of the walk, and the walk.
 use field::Reading;
 use records::Head;
 ghost use mathlib.Core.Path.{_≡_};
-ghost use mathlib.Core.Bool.{false};
 ghost use mathlib.Core.List.{[], _∷_};
 ghost use Prim.Native.Nat.{_+_, _≤_};
 ghost use lib.ListN.{length};
 ghost use Rattle.code.specs.Calls.{filled};
-ghost use Rattle.code.specs.Dump.{exportReply, exportLeaves, stepReply, taken, outcome, walkReply, walkLeaves, recordLine};
+ghost use Rattle.code.specs.Dump.{exportReply, exportLeaves, stepReply, taken, outcome, walkReply, walkLeaves};
 ghost use Rattle.storing.specs.Put.{Put};
 ghost use Rattle.field.specs.Answers.{readingOf};
-ghost use Rattle.text.specs.Within.{PutWithin};
-ghost use Rattle.dump.specs.Listing.{Refusing, haltLines, Standing, Tells, Fills};
 ghost use Rattle.dump.specs.Answers.{exportedOf, stepOf, Right, RightFor, walkedOf, haltedBy};
 
 // The most bytes of a dump.
@@ -319,129 +316,4 @@ pub fn walk(dump: &[u8], at: usize, rows: &mut [u64]) -> Walked
         }
     }
     pause_walk(next as u64, done, 0)
-}
-
-// The line of a record.
-fn put_outcome_line(out: &mut [u8], at: usize, serial: u64, outcome: Reading) -> usize
-    requires { ⌜ (at + 84 ≤ length (now out)) × Refusing (readingOf outcome) ⌝ }
-    ensures { λ r. ⌜ PutWithin 84 (now (out .entry)) (now (out .exit)) at (recordLine serial (readingOf outcome)) r ⌝ }
-{
-    match outcome {
-        Reading::Read {
-            generation,
-            number,
-            left,
-        } => text::put_reading_line(out, at, serial, generation, number, left),
-        Reading::Refused(refusal) => text::put_refusal_line(out, at, serial, refusal),
-    }
-}
-
-// The lines that end the listing of a dump whose walk stops before the end.
-fn put_halt_lines(out: &mut [u8], at: usize, count: u64, halt: Halt) -> usize
-    requires { ⌜ at + 84 ≤ length (now out) ⌝ }
-    ensures { λ r. ⌜ PutWithin 84 (now (out .entry)) (now (out .exit)) at (haltLines count halt) r ⌝ }
-{
-    match halt {
-        Halt::Malformed { offset } => text::put_stop_lines(out, at, count, offset as u64),
-        Halt::Oversize => text::put_oversize_line(out, at),
-    }
-}
-
-// The most bytes that a step's lines take.
-const LINE: usize = 84;
-
-// How far a listing is told: where the next step starts, the records before it, and whether all is told.
-pub struct Listing {
-    pub next: usize,
-    pub count: u64,
-    pub over: bool,
-    pub kept: Kept,
-}
-
-// What is told is the output up to `end`.
-pub struct Told {
-    pub listing: Listing,
-    pub end: usize,
-}
-
-// Tells the lines of one step.
-fn tell(dump: &[u8], s: Listing, out: &mut [u8], at: usize) -> Told
-    requires { ⌜ Standing s × (s .over ≡ false) × (at + 84 ≤ length (now out)) ⌝ }
-    ensures { λ r. ⌜ Tells (now (dump .entry)) s (now (out .entry)) (now (out .exit)) at r ⌝ }
-{
-    let stepped = step_kept(dump, s.next, s.kept);
-    let step = stepped.step;
-    let kept = stepped.kept;
-    let before = s.count;
-    match step {
-        Step::Record {
-            serial,
-            m: _,
-            t: _,
-            v: _,
-            start,
-            count,
-            outcome,
-        } => {
-            let end = put_outcome_line(out, at, serial, outcome);
-            let next = start + count;
-            let listing = Listing {
-                next,
-                count: before + 1,
-                over: false,
-                kept,
-            };
-            Told { listing, end }
-        }
-        Step::End => {
-            let end = text::put_last_line(out, at, before);
-            let listing = Listing {
-                next: s.next,
-                count: before,
-                over: true,
-                kept,
-            };
-            Told { listing, end }
-        }
-        Step::Stop(halt) => {
-            let end = put_halt_lines(out, at, before, halt);
-            let listing = Listing {
-                next: s.next,
-                count: before,
-                over: true,
-                kept,
-            };
-            Told { listing, end }
-        }
-    }
-}
-
-pub fn start_listing() -> Listing
-    ensures { λ r. ⌜ Standing r × (r .next ≡ 0) × (r .count ≡ 0) × (r .over ≡ false) ⌝ }
-{
-    let kept = keep_none();
-    Listing {
-        next: 0,
-        count: 0,
-        over: false,
-        kept,
-    }
-}
-
-// Tells the next lines, as many as surely fit.
-pub fn fill(dump: &[u8], start: Listing, out: &mut [u8]) -> Told
-    requires { ⌜ Standing start × (start .over ≡ false) × (84 ≤ length (now out)) ⌝ }
-    ensures { λ r. ⌜ Fills (now (dump .entry)) start (now (out .exit)) r ⌝ }
-{
-    let mut s = start;
-    let mut end = 0;
-    while LINE <= out.len() - end {
-        let told = tell(dump, s, out, end);
-        s = told.listing;
-        end = told.end;
-        if s.over {
-            return Told { listing: s, end };
-        }
-    }
-    Told { listing: s, end }
 }

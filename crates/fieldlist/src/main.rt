@@ -11,9 +11,9 @@ fn main() {
 
 fn list(dump: &[u8]) {
     let mut out = [0u8; 4096];
-    let mut s = dump::start_listing();
+    let mut s = listing::start_listing();
     loop {
-        let told = dump::fill(dump, s, &mut out);
+        let told = listing::fill(dump, s, &mut out);
         if !io::write_all(1, &out[..told.end]) {
             return;
         }

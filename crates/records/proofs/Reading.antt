@@ -76,11 +76,11 @@ module _ {bytes : List ℕ} {at : ℕ} {xs : List ℕ} {next i : ℕ} (h : Headi
         reads = rw (add-one i, take-suc-set xs i x (omega (arith, h .long)), led-more, ← f .0 (5 - suc i), ← s) (h .reads);
       }
 
-  pub heading-cut : i < 5 → Malformed ≡ numberOf next (readSevens 9 (drop next bytes)) → stopped 7 (at ∷ []) ≡ recordAt bytes at (readNumbers 5 bytes at)
+  pub heading-cut : {offset : ℕ} → i < 5 → Malformed ≡ numberOf next (readSevens 9 (drop next bytes)) → offset ≡ at → stopped 7 (offset ∷ []) ≡ recordAt bytes at (readNumbers 5 bytes at)
   unfolding recordAt
-  heading-cut l e =
+  heading-cut l e first =
       let s : 5 - i ≡ suc (5 - suc i) = omega arith in
-      rw (h .reads, s, lost bytes next (5 - suc i) e, led-cut)
+      rw (h .reads, s, lost bytes next (5 - suc i) e, led-cut, first)
 
   pub heading-end : 5 ≤ i → readNumbers 5 bytes at ≡ numbers xs next
   unfolding readNumbers

@@ -36,8 +36,9 @@ pub record Storing (before : List ℕ) (from : ℕ) (all after : List ℕ) (at :
 pub storing-begin : (b : List ℕ) (at : ℕ) (ys : List ℕ) → Storing b at ys b at ys (at + length ys)
 storing-begin b at ys = record { same = refl; due = refl; ends = refl }
 
-pub storing-first : {b c all ys : List ℕ} {from at y end : ℕ} → Storing b from all c at (y ∷ ys) end → Storing b from all (set c at y) (at + 1) ys end
-storing-first {c} {at} {y} s = record { same = length-set c at y ∙ s .same; due = rw add-one (s .due); ends = omega (arith, s .ends) }
+-- the first, or the last, of what is left is stored where it is due
+pub storing-first : {b c all ys : List ℕ} {from at y end place x : ℕ} → Storing b from all c at (y ∷ ys) end → place ≡ at → x ≡ y → Storing b from all (set c place x) (at + 1) ys end
+storing-first {c} {at} {y} s p q = rw (p, q) record { same = length-set c at y ∙ s .same; due = rw add-one (s .due); ends = omega (arith, s .ends) }
 
 sets-last : (b : List ℕ) (at : ℕ) (ys : List ℕ) (y : ℕ) → sets b at (ys ++ (y ∷ [])) ≡ sets (set b (at + length ys) y) at ys
 sets-last b at [] y = rw add-zero
@@ -45,10 +46,10 @@ sets-last b at (x ∷ ys) y =
     let e : at + suc (length ys) ≡ suc at + length ys = omega arith in
     sets-last (set b at x) (suc at) ys y ∙ rw (e, set-comm b (suc at + length ys) at y x (λ q. absurd (omega arith)))
 
-pub storing-last : {b c all : List ℕ} {from at end : ℕ} (ys : List ℕ) (y : ℕ) → Storing b from all c at (ys ++ (y ∷ [])) (end + 1) → Storing b from all (set c end y) at ys end
-storing-last {c} {at} {end} ys y s =
+pub storing-last : {b c all : List ℕ} {from at end place x : ℕ} (ys : List ℕ) (y : ℕ) → Storing b from all c at (ys ++ (y ∷ [])) (end + 1) → place ≡ end → x ≡ y → Storing b from all (set c place x) at ys end
+storing-last {c} {at} {end} ys y s p q =
     let e : end ≡ at + length ys = omega (arith, s .ends, length-append ys (y ∷ [])) in
-    record { same = length-set c end y ∙ s .same; due = rw (e, ← sets-last c at ys y) (s .due); ends = e }
+    rw (p, q) record { same = length-set c end y ∙ s .same; due = rw (e, ← sets-last c at ys y) (s .due); ends = e }
 
 pub storing-end : {b c all : List ℕ} {from at : ℕ} → Storing b from all c at [] (from + length all) → Put b c from all at
 storing-end s = record { stored = s .due; ends = omega (arith, s .ends) }

@@ -1,4 +1,5 @@
 -- Laws of text stored piece by piece.
+use mathlib.Core.Path.{_≡_}
 use mathlib.Core.List.{List, _++_}
 use Prim.Native.Nat.{ℕ, _+_, _≤_}
 use native.Mathlib.Omega.{arith}
@@ -15,3 +16,6 @@ within-then v w = record { put = put-then (v .put) (w .put); few = omega (arith,
 
 pub wider : {m k : ℕ} {b c ys : List ℕ} {at n : ℕ} → m ≤ k → PutWithin m b c at ys n → PutWithin k b c at ys n
 wider h p = record { put = p .put; few = omega (arith, p .few) }
+
+pub within-same : {m : ℕ} {b c ys zs : List ℕ} {at n : ℕ} → PutWithin m b c at ys n → ys ≡ zs → PutWithin m b c at zs n
+within-same p e = rw (← e) p

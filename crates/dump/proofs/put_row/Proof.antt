@@ -45,7 +45,7 @@ put-row-spec =
     let s = c .before .loop in
     let numbers = c .before .before .before .args .row .numbers in
     let left : drop (s .i) numbers ≡ getD numbers (s .i) 0 ∷ drop (suc (s .i)) numbers = drop-cons numbers (s .i) 0 (omega arith) in
-    (search needs, s .inv .1, rw (← add-assoc, add-one (s .i)) (storing-first (rw left at (s .inv .2)))))
+    (search needs, s .inv .1, rw (← add-assoc, add-one (s .i)) (storing-first (rw left at (s .inv .2)) (omega arith) (omega arith))))
     -- add-result
     (λ c. search needs)
     -- same-length

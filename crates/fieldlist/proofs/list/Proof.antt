@@ -5,7 +5,7 @@ use Prim.Native.Nat.{_-_}
 use native.Mathlib.Omega.{arith}
 use borrow.Author.Needs.{needs}
 use lib.ListN.{length, length-take}
-use Rattle.dump.specs.Listing.{Standing}
+use Rattle.listing.specs.Listing.{Standing}
 use Rattle.fieldlist.proofs.list.Statement.{statement}
 use Rattle.fieldlist.proofs.list.Tie as tie
 

@@ -33,7 +33,7 @@ read-head-spec =
     -- enum-told
     (λ c. search needs)
     -- returns
-    (λ c. heading-cut (c .before .before .before .before .loop .inv) (c .before .before .before .loop-test .taken) (sym (c .enum-told .given .1) ∙ c .before .before .read-number .ensures))
+    (λ c. heading-cut (c .before .before .before .before .loop .inv) (c .before .before .before .loop-test .taken) (sym (c .enum-told .given .1) ∙ c .before .before .read-number .ensures) (omega arith))
     -- mul-numbers
     (λ c. search needs)
     -- array-write-numbers

@@ -2,6 +2,7 @@
 use mathlib.Core.Path.{_≡_}
 use mathlib.Core.List.{_∷_}
 use Prim.Native.Nat.{suc, _+_, _-_, _≤_}
+use native.Mathlib.Omega.{arith}
 use native.Mathlib.Nat.{add-zero, add-assoc}
 use native.Mathlib.Numerals.{add-one}
 use borrow.Author.Needs.{needs}
@@ -41,7 +42,7 @@ put-bytes-spec =
     let s = c .before .before .loop in
     let bytes = now (c .before .before .before .args .bytes) in
     let left : drop (s .i) bytes ≡ getD bytes (s .i) 0 ∷ drop (suc (s .i)) bytes = drop-cons bytes (s .i) 0 (c .before .loop-test .taken) in
-    (search needs, rw (← add-assoc, add-one (s .i)) (storing-first (rw left at (s .inv .1)))))
+    (search needs, rw (← add-assoc, add-one (s .i)) (storing-first (rw left at (s .inv .1)) (omega arith) (omega arith))))
     -- add-result
     (λ c. search needs)
     -- same-length

@@ -1,5 +1,5 @@
 -- `text::put_decimal` meets its contract. Assumes nothing.
-use mathlib.Core.Path.{_≡_}
+use mathlib.Core.Path.{_≡_, refl}
 use Prim.Native.Nat.{_+_, _-_, _^_, _/_, _%_, _<_}
 use native.Mathlib.Omega.{arith}
 use borrow.Author.Needs.{needs}
@@ -41,7 +41,7 @@ put-decimal-spec =
     (λ c.
     let s = c .before .loop in
     let one : s .place ≡ s .place - 1 + 1 = omega (arith, spelled-longer 19 (s .rest) (c .loop-test .taken) (s .inv .0)) in
-    (omega arith, storing-last (decimal (s .rest / 10)) (48 + s .rest % 10) (rw (spelled-next 19 (s .rest) (c .loop-test .taken) (s .inv .0), one) at (s .inv .1))))
+    (omega arith, storing-last (decimal (s .rest / 10)) (48 + s .rest % 10) (rw (spelled-next 19 (s .rest) (c .loop-test .taken) (s .inv .0), one) at (s .inv .1)) (omega arith) (omega arith)))
     -- cast-out-2
     (λ c. search needs)
     -- add-out-2
@@ -53,5 +53,5 @@ put-decimal-spec =
     -- returns
     (λ c.
     let s = c .before .loop in
-    let p = storing-first (rw (spelled-last 19 (s .rest) (c .loop-test .left)) at (s .inv .1)) in
+    let p = storing-first (rw (spelled-last 19 (s .rest) (c .loop-test .left)) at (s .inv .1)) refl refl in
     record { put = record { stored = p .due; ends = omega arith }; few = omega (arith, spelled-few 20 (c .before .before .before .before .args .x)) }))

@@ -4,7 +4,7 @@ use mathlib.Core.List.{append-assoc}
 use native.Mathlib.Omega.{arith}
 use borrow.Author.Needs.{needs}
 use Rattle.code.specs.Dump.{ascii, recordLine}
-use Rattle.text.proofs.Laws.{exactly, within-then}
+use Rattle.text.proofs.Laws.{exactly, within-then, within-same}
 use Rattle.text.proofs.put_reading_line.Statement.{statement}
 use Rattle.text.proofs.put_reading_line.Tie as tie
 
@@ -33,7 +33,8 @@ put-reading-line-spec =
     (λ c. search needs)
     -- returns
     (λ c.
-    simp append-assoc at
+    within-same
     (within-then
     (within-then (within-then (within-then (c .before .before .before .before .before .before .before .before .before .before .before .before .before .before .before .before .before .before .before .before .before .put-decimal .ensures) (c .before .before .before .before .before .before .before .before .before .before .before .before .before .before .before .before .put-labelled .ensures)) (c .before .before .before .before .before .before .before .before .before .before .before .put-labelled2 .ensures)) (c .before .before .before .before .before .before .put-labelled3 .ensures))
-    (exactly (c .before .before .put-byte .ensures)))))
+    (exactly (c .before .before .put-byte .ensures)))
+    (simp append-assoc)))

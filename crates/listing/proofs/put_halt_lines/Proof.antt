@@ -1,9 +1,9 @@
--- `dump::put_halt_lines` meets its contract. Assumes nothing.
+-- `listing::put_halt_lines` meets its contract. Assumes nothing.
 use native.Mathlib.Omega.{arith}
 use borrow.Author.Needs.{needs}
 use Rattle.text.proofs.Laws.{wider}
-use Rattle.dump.proofs.put_halt_lines.Statement.{statement}
-use Rattle.dump.proofs.put_halt_lines.Tie as tie
+use Rattle.listing.proofs.put_halt_lines.Statement.{statement}
+use Rattle.listing.proofs.put_halt_lines.Tie as tie
 
 pub put-halt-lines-spec : {M : Type 1} → statement M
 put-halt-lines-spec =

@@ -1,14 +1,14 @@
--- `dump::put_outcome_line` meets its contract. Assumes nothing.
-use mathlib.Core.Path.{ap}
+-- `listing::tell_outcome` meets its contract. Assumes nothing.
+use mathlib.Core.Path.{refl, ap}
 use native.Mathlib.Omega.{arith}
 use borrow.Author.Needs.{needs}
 use Rattle.field.specs.Answers.{readingOf}
 use Rattle.text.proofs.Laws.{wider}
-use Rattle.dump.proofs.put_outcome_line.Statement.{statement}
-use Rattle.dump.proofs.put_outcome_line.Tie as tie
+use Rattle.listing.proofs.tell_outcome.Statement.{statement}
+use Rattle.listing.proofs.tell_outcome.Tie as tie
 
-pub put-outcome-line-spec : {M : Type 1} → statement M
-put-outcome-line-spec =
+pub tell-outcome-spec : {M : Type 1} → statement M
+tell-outcome-spec =
     tie.close
     (tie.spec
     -- enum-known-outcome
@@ -22,8 +22,8 @@ put-outcome-line-spec =
     -- same-length
     (λ c. search needs)
     -- returns
-    (λ c. rw (c .before .before .before .before .before .outcome .given .1) (c .before .before .put-reading-line .ensures))
+    (λ c. (refl, rw (c .before .before .before .before .before .outcome .given .1) (c .before .before .put-reading-line .ensures)))
     -- same-length-2
     (λ c. search needs)
     -- returns-2
-    (λ c. rw (c .before .before .before .before .before .outcome2 .given .1) (wider (omega arith) (c .before .before .put-refusal-line .ensures))))
+    (λ c. (refl, rw (c .before .before .before .before .before .outcome2 .given .1) (wider (omega arith) (c .before .before .put-refusal-line .ensures)))))

@@ -1,16 +1,15 @@
 -- The text of a listing, told piece by piece.
-use Prim.Native.Nat.{ℕ, _<_, _≤_}
+use Prim.Native.Nat.{ℕ, _+_, _<_, _≤_}
 use mathlib.Core.Path.{_≡_}
 use mathlib.Core.Bool.{false, cond}
 use mathlib.Core.List.{List, [], _∷_, _++_}
 use lib.ListN.{length, take}
 use Rattle.code.specs.Dump.{stopLines, textFrom}
 use Rattle.text.specs.Within.{PutWithin}
-use Rattle.dump.specs.Answers.{Right}
+use Rattle.dump.specs.Answers.{haltNumber, haltCarries, Right}
 use Rattle.dump.specs.declared.Halt.{Halt}
-use Rattle.dump.specs.declared.Halt.the-variants.{Malformed, Oversize}
-use Rattle.dump.specs.declared.Listing.{Listing}
-use Rattle.dump.specs.declared.Told.{Told}
+use Rattle.listing.specs.declared.Listing.{Listing}
+use Rattle.listing.specs.declared.Told.{Told}
 
 -- a reply of one number is a refusal
 abbrev pub Refusing : List ℕ → Type 0
@@ -18,8 +17,7 @@ Refusing reply = (k : ℕ) → reply ≡ k ∷ [] → 0 < k
 
 -- the closing lines of a walk that stops before the end, after so many records
 abbrev pub haltLines : ℕ → Halt → List ℕ
-haltLines count (Malformed offset) = stopLines count 7 (offset ∷ [])
-haltLines count Oversize = stopLines count 8 []
+haltLines count halt = stopLines count (haltNumber halt) (haltCarries halt)
 
 -- the text that is still to be told
 abbrev pub textLeft : List ℕ → Listing → List ℕ
@@ -30,6 +28,13 @@ pub record Standing (s : Listing) : Type 0 where
   pub right : Right (s .kept)
   pub few : s .count ≤ s .next
   pub within : s .next ≤ 65536
+
+-- the listing behind a record that ends at `next`
+pub record GoesOn (s : Listing) (next : ℕ) (r : Listing) : Type 0 where
+  pub counted : r .count ≡ s .count + 1
+  pub on : r .over ≡ false
+  pub further : r .next ≡ next
+  pub standing : Standing r
 
 -- a step's lines are told from a place of the output on
 pub record Tells (bytes : List ℕ) (s : Listing) (before after : List ℕ) (at : ℕ) (r : Told) : Type 0 where

@@ -1,0 +1,116 @@
+-- What each step makes of the text of a listing.
+use Prim.Native.Nat.{ℕ, _+_, _-_, _≤_, _<_}
+use mathlib.Core.Path.{_≡_, refl, _∙_}
+use mathlib.Core.Bool.{true, false}
+use mathlib.Core.List.{List, [], _++_, append-nil, append-assoc}
+use native.Mathlib.Omega.{arith}
+use native.Mathlib.Numerals.{add-one}
+use lib.ListN.{length, take, drop}
+use lib.Seq.{take-at}
+use Rattle.code.specs.Dump.{stepReply, recordLine, lastLine, lines, textFrom}
+use Rattle.code.proofs.Tests.{clash}
+use Rattle.code.proofs.Replies.{read-refusing}
+use Rattle.code.proofs.Walk.{walk-ended, walk-stopped, onward-taken}
+use Rattle.field.specs.Answers.{readingOf}
+use Rattle.field.specs.declared.Reading.{Reading}
+use Rattle.storing.specs.Put.{Put}
+use Rattle.storing.proofs.Put.{put-none, put-then, put-length, put-pastes}
+use Rattle.text.specs.Within.{PutWithin}
+use Rattle.text.proofs.Laws.{wider}
+use Rattle.dump.specs.Answers.{haltNumber, haltCarries, stepOf}
+use Rattle.dump.specs.declared.Halt.{Halt}
+use Rattle.dump.specs.declared.Step.{Step}
+use Rattle.dump.specs.declared.Step.the-variants.{Record, End, Stop}
+use Rattle.dump.proofs.Steps.{gives-record, gives-end, gives-stop, record-further}
+use Rattle.listing.specs.Listing.{Refusing, haltLines, textLeft, Standing, GoesOn, Tells, Fills}
+use Rattle.listing.specs.declared.Listing.{Listing}
+use Rattle.listing.specs.declared.Told.{Told}
+
+module _ (bytes : List ℕ) (at : ℕ) {s : Step} (gives : stepOf s ≡ stepReply bytes at) where
+  module _ {serial m t v start n : ℕ} {outcome : Reading} (e : s ≡ Record serial m t v start n outcome) where
+    record-text : (count : ℕ) → textFrom bytes at count ≡ recordLine serial (readingOf outcome) ++ textFrom bytes (start + n) (count + 1)
+    unfolding lines
+    record-text count =
+        let told = gives-record bytes at gives e in
+        rw (onward-taken bytes at serial m t v start n (told .0), told .1, add-one count)
+
+    pub record-refusing : Refusing (readingOf outcome)
+    record-refusing = rw (← gives-record bytes at gives e .1) (read-refusing m t v (take n (drop start bytes)))
+
+  end-text : (count : ℕ) → s ≡ End → textFrom bytes at count ≡ lastLine count
+  unfolding lines
+  end-text count e = rw (walk-ended (length bytes - at) bytes at (gives-end bytes at gives e))
+
+  stop-text : (count : ℕ) {halt : Halt} → s ≡ Stop halt → textFrom bytes at count ≡ haltLines count halt
+  unfolding lines
+  stop-text count {halt} e = rw (walk-stopped (length bytes - at) bytes at (haltNumber halt) (haltCarries halt) (gives-stop bytes at gives e))
+
+-- so each step's lines are told
+module _ {bytes : List ℕ} {l : Listing} {before after : List ℕ} {at : ℕ} {r : Told} (on : l .over ≡ false) where
+  closes : (piece : List ℕ) → textFrom bytes (l .next) (l .count) ≡ piece → Standing (r .listing) × (r .listing .over ≡ true) → PutWithin 84 before after at piece (r .end) → Tells bytes l before after at r
+  closes piece e c p = record {
+    piece = piece;
+    put = p;
+    text = rw (on, c .1, append-nil) e;
+    standing = c .0;
+    further = λ q. clash (cc);
+  }
+
+  module _ {s : Step} (gives : stepOf s ≡ stepReply bytes (l .next)) where
+    pub tells-record : {serial m t v start n : ℕ} {outcome : Reading} {behind : Listing} → s ≡ Record serial m t v start n outcome → GoesOn l (start + n) behind →
+        (r .listing ≡ behind) × PutWithin 84 before after at (recordLine serial (readingOf outcome)) (r .end) → Tells bytes l before after at r
+    tells-record {serial} {outcome = outcome} e g p = record {
+      piece = recordLine serial (readingOf outcome);
+      put = p .1;
+      text = rw (on, p .0, g .on, g .further, g .counted) (record-text bytes (l .next) gives e (l .count));
+      standing = rw (p .0) (g .standing);
+      further = rw (p .0, g .further) (λ q. record-further bytes (l .next) gives e .0);
+    }
+
+    pub tells-end : s ≡ End → Standing (r .listing) × (r .listing .over ≡ true) → PutWithin 29 before after at (lastLine (l .count)) (r .end) → Tells bytes l before after at r
+    tells-end e c p = closes (lastLine (l .count)) (end-text bytes (l .next) gives (l .count) e) c (wider (omega arith) p)
+
+    pub tells-stop : {halt : Halt} → s ≡ Stop halt → Standing (r .listing) × (r .listing .over ≡ true) → PutWithin 84 before after at (haltLines (l .count) halt) (r .end) → Tells bytes l before after at r
+    tells-stop {halt} e c p = closes (haltLines (l .count) halt) (stop-text bytes (l .next) gives (l .count) e) c p
+
+-- lines one after the other fill the front of the output
+pub record Filling (bytes : List ℕ) (start : Listing) (before after : List ℕ) (s : Listing) (end : ℕ) : Type 0 where
+  pub told : List ℕ
+  pub put : Put before after 0 told end
+  pub text : textLeft bytes start ≡ told ++ textLeft bytes s
+  pub inside : end ≤ length before
+  pub same : length after ≡ length before
+  pub standing : Standing s
+  pub reached : s .over ≡ false → start .next ≤ s .next
+  pub further : 0 < end → s .over ≡ false → start .next < s .next
+
+pub filling-begin : (bytes : List ℕ) (start : Listing) (out : List ℕ) → Standing start → Filling bytes start out out start 0
+filling-begin bytes start out standing = record {
+  told = [];
+  put = put-none out 0;
+  text = refl;
+  inside = omega arith;
+  same = refl;
+  standing = standing;
+  reached = λ on. omega arith;
+  further = λ some. absurd (omega arith);
+}
+
+module _ {bytes : List ℕ} {start : Listing} {before after : List ℕ} {s : Listing} {end : ℕ} (f : Filling bytes start before after s end) where
+  pub filling-end : (s .over ≡ false → start .next < s .next) → Fills bytes start after record { listing = s; end = end }
+  filling-end further =
+      let front : take end after ≡ f .told = rw (put-pastes (f .put) (f .inside)) (take-at (f .told) (drop end before) end (omega (arith, f .put .ends))) in
+      record { text = rw front (f .text); inside = omega (arith, f .inside, f .same); standing = f .standing; further = further }
+
+  pub filling-next : {last : List ℕ} {r : Told} → s .over ≡ false → 84 ≤ length before - end → Tells bytes s after last end r →
+      Filling bytes start before last (r .listing) (r .end)
+  filling-next {last} {r} on room t = record {
+    told = f .told ++ t .piece;
+    put = put-then (f .put) (t .put .put);
+    text = rw append-assoc (f .text ∙ rw (t .text));
+    inside = omega (arith, t .put .few);
+    same = put-length (t .put .put) ∙ f .same;
+    standing = t .standing;
+    reached = λ more. omega (arith, f .reached on, t .further more);
+    further = λ some more. omega (arith, f .reached on, t .further more);
+  }

@@ -1,0 +1,15 @@
+-- `listing::go_on` meets its contract. Assumes nothing.
+use mathlib.Core.Path.{refl}
+use native.Mathlib.Omega.{arith}
+use borrow.Author.Needs.{needs}
+use Rattle.listing.proofs.go_on.Statement.{statement}
+use Rattle.listing.proofs.go_on.Tie as tie
+
+pub go-on-spec : {M : Type 1} → statement M
+go-on-spec =
+    tie.close
+    (tie.spec
+    -- add
+    (λ c. search needs)
+    -- returns
+    (λ c. record { counted = omega arith; on = refl; further = refl; standing = record { right = c .before .pre .3; few = omega arith; within = omega arith } }))
