@@ -1,7 +1,7 @@
 -- What each step makes of the text of a listing.
 use Prim.Native.Nat.{ℕ, _+_, _-_, _≤_, _<_}
 use mathlib.Core.Path.{_≡_, refl, _∙_}
-use mathlib.Core.Bool.{true, false}
+use mathlib.Core.Bool.{false}
 use mathlib.Core.List.{List, [], _++_, append-nil, append-assoc}
 use native.Mathlib.Omega.{arith}
 use native.Mathlib.Numerals.{add-one}
@@ -22,7 +22,7 @@ use Rattle.dump.specs.declared.Halt.{Halt}
 use Rattle.dump.specs.declared.Step.{Step}
 use Rattle.dump.specs.declared.Step.the-variants.{Record, End, Stop}
 use Rattle.dump.proofs.Steps.{gives-record, gives-end, gives-stop, record-further}
-use Rattle.listing.specs.Listing.{Refusing, haltLines, textLeft, Standing, GoesOn, Tells, Fills}
+use Rattle.listing.specs.Listing.{Refusing, haltLines, textLeft, Standing, GoesOn, Closed, Tells, Fills}
 use Rattle.listing.specs.declared.Listing.{Listing}
 use Rattle.listing.specs.declared.Told.{Told}
 
@@ -47,7 +47,7 @@ module _ (bytes : List ℕ) (at : ℕ) {s : Step} (gives : stepOf s ≡ stepRepl
 
 -- so each step's lines are told
 module _ {bytes : List ℕ} {l : Listing} {before after : List ℕ} {at : ℕ} {r : Told} (on : l .over ≡ false) where
-  closes : (piece : List ℕ) → textFrom bytes (l .next) (l .count) ≡ piece → Standing (r .listing) × (r .listing .over ≡ true) → PutWithin 84 before after at piece (r .end) → Tells bytes l before after at r
+  closes : (piece : List ℕ) → textFrom bytes (l .next) (l .count) ≡ piece → Closed (r .listing) → PutWithin 84 before after at piece (r .end) → Tells bytes l before after at r
   closes piece e c p = record {
     piece = piece;
     put = p;
@@ -67,10 +67,10 @@ module _ {bytes : List ℕ} {l : Listing} {before after : List ℕ} {at : ℕ} {
       further = rw (p .0, g .further) (λ q. record-further bytes (l .next) gives e .0);
     }
 
-    pub tells-end : s ≡ End → Standing (r .listing) × (r .listing .over ≡ true) → PutWithin 29 before after at (lastLine (l .count)) (r .end) → Tells bytes l before after at r
+    pub tells-end : s ≡ End → Closed (r .listing) → PutWithin 29 before after at (lastLine (l .count)) (r .end) → Tells bytes l before after at r
     tells-end e c p = closes (lastLine (l .count)) (end-text bytes (l .next) gives (l .count) e) c (wider (omega arith) p)
 
-    pub tells-stop : {halt : Halt} → s ≡ Stop halt → Standing (r .listing) × (r .listing .over ≡ true) → PutWithin 84 before after at (haltLines (l .count) halt) (r .end) → Tells bytes l before after at r
+    pub tells-stop : {halt : Halt} → s ≡ Stop halt → Closed (r .listing) → PutWithin 84 before after at (haltLines (l .count) halt) (r .end) → Tells bytes l before after at r
     tells-stop {halt} e c p = closes (haltLines (l .count) halt) (stop-text bytes (l .next) gives (l .count) e) c p
 
 -- lines one after the other fill the front of the output

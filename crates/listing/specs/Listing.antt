@@ -1,7 +1,7 @@
 -- The text of a listing, told piece by piece.
 use Prim.Native.Nat.{ℕ, _+_, _<_, _≤_}
 use mathlib.Core.Path.{_≡_}
-use mathlib.Core.Bool.{false, cond}
+use mathlib.Core.Bool.{true, false, cond}
 use mathlib.Core.List.{List, [], _∷_, _++_}
 use lib.ListN.{length, take}
 use Rattle.code.specs.Dump.{stopLines, textFrom}
@@ -35,6 +35,10 @@ pub record GoesOn (s : Listing) (next : ℕ) (r : Listing) : Type 0 where
   pub on : r .over ≡ false
   pub further : r .next ≡ next
   pub standing : Standing r
+
+-- a listing that is all told
+abbrev pub Closed : Listing → Type 0
+Closed s = Standing s × (s .over ≡ true)
 
 -- a step's lines are told from a place of the output on
 pub record Tells (bytes : List ℕ) (s : Listing) (before after : List ℕ) (at : ℕ) (r : Told) : Type 0 where

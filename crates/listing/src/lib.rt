@@ -4,14 +4,14 @@ use dump::Kept;
 use dump::Step;
 use field::Reading;
 ghost use mathlib.Core.Path.{_≡_};
-ghost use mathlib.Core.Bool.{true, false};
+ghost use mathlib.Core.Bool.{false};
 ghost use Prim.Native.Nat.{_+_, _≤_, _<_};
 ghost use lib.ListN.{length};
 ghost use Rattle.code.specs.Dump.{recordLine};
 ghost use Rattle.field.specs.Answers.{readingOf};
 ghost use Rattle.text.specs.Within.{PutWithin};
 ghost use Rattle.dump.specs.Answers.{Right};
-ghost use Rattle.listing.specs.Listing.{Refusing, haltLines, Standing, GoesOn, Tells, Fills};
+ghost use Rattle.listing.specs.Listing.{Refusing, haltLines, Standing, GoesOn, Closed, Tells, Fills};
 
 // The most bytes that a step's lines take.
 const LINE: usize = 84;
@@ -51,7 +51,7 @@ fn go_on(s: Listing, next: usize, kept: Kept) -> Listing
 
 fn close(s: Listing) -> Listing
     requires { ⌜ Standing s ⌝ }
-    ensures { λ r. ⌜ Standing r × (r .over ≡ true) ⌝ }
+    ensures { λ r. ⌜ Closed r ⌝ }
 {
     let mut closed = s;
     closed.over = true;
@@ -64,10 +64,10 @@ pub struct Told {
     pub end: usize,
 }
 
-// Tells the line of a record. Refused or not, the listing goes on behind it.
-fn tell_outcome(out: &mut [u8], at: usize, serial: u64, outcome: Reading, behind: Listing) -> Told
+// Tells the line of a record, behind which the listing goes on, refused or not.
+fn tell_outcome(out: &mut [u8], at: usize, serial: u64, outcome: Reading, listing: Listing) -> Told
     requires { ⌜ (at + 84 ≤ length (now out)) × Refusing (readingOf outcome) ⌝ }
-    ensures { λ r. ⌜ (r .listing ≡ behind) × PutWithin 84 (now (out .entry)) (now (out .exit)) at (recordLine serial (readingOf outcome)) (r .end) ⌝ }
+    ensures { λ r. ⌜ (r .listing ≡ listing) × PutWithin 84 (now (out .entry)) (now (out .exit)) at (recordLine serial (readingOf outcome)) (r .end) ⌝ }
 {
     match outcome {
         Reading::Read {
@@ -76,17 +76,11 @@ fn tell_outcome(out: &mut [u8], at: usize, serial: u64, outcome: Reading, behind
             left,
         } => {
             let end = text::put_reading_line(out, at, serial, generation, number, left);
-            Told {
-                listing: behind,
-                end,
-            }
+            Told { listing, end }
         }
         Reading::Refused(refusal) => {
             let end = text::put_refusal_line(out, at, serial, refusal);
-            Told {
-                listing: behind,
-                end,
-            }
+            Told { listing, end }
         }
     }
 }
@@ -120,8 +114,8 @@ fn tell(dump: &[u8], s: Listing, out: &mut [u8], at: usize) -> Told
             count,
             outcome,
         } => {
-            let behind = go_on(s, start + count, kept);
-            tell_outcome(out, at, serial, outcome, behind)
+            let listing = go_on(s, start + count, kept);
+            tell_outcome(out, at, serial, outcome, listing)
         }
         Step::End => {
             let end = text::put_last_line(out, at, s.count);

@@ -28,7 +28,7 @@ fill-spec =
     -- sub-loop
     (λ c. search needs)
     -- tell-requires
-    (λ c κs. search needs)
+    (λ c κs. let l = c .before .before .loop in (l .inv .2 .standing, l .inv .0, omega arith))
     -- same-length
     (λ c. let t = c .before .before .before .before in put-length (t .tell .ensures .put .put) ∙ t .before .before .before .loop .inv .2 .same)
     -- returns
