@@ -10,7 +10,7 @@ test:
 	@tools/setup
 	@rt fmt --check
 	@cd second && cargo test --release --offline --quiet && cargo build --release --offline --quiet
-	@rt check fieldlist gorvlime
+	@rt check fieldlist gorvlime answers
 	@tests/run-listings
 	@tests/run-values
 	@rt staticlib gorvlime
@@ -22,6 +22,7 @@ test:
 crosscheck:
 	@tools/setup
 	@cd second && cargo build --release --offline --quiet
+	@rt check answers
 	@rt staticlib gorvlime
 	@tests/crosscheck $(CALLS)
 

@@ -16,6 +16,7 @@ use Rattle.code.specs.Run.{accepted}
 use Rattle.code.specs.Calls.{refusal, outside, misfit, granted, layoutRefusal, unreadable, generation}
 use Rattle.code.proofs.Tests.{le-or-lt, both-true, and-false}
 use Rattle.code.proofs.Conditions.{Layout}
+use Rattle.code.proofs.Grant.{grant-length}
 use Rattle.code.proofs.Field.{read-past, past-below, write-blank, write-read}
 use Rattle.code.proofs.Run.{blank-reads}
 
@@ -55,6 +56,10 @@ unfolding layoutRefusal
 layout-none m t v g ok =
     let a = passed 0 (outside m t v g) ((2, misfit g (granted m t v g)) ∷ []) ok in
     (a .0, passed 1 (misfit g (granted m t v g)) [] (a .1) .0)
+
+pub granted-length : (m t v g : ℕ) → length (granted m t v g) ≡ t
+unfolding granted
+granted-length m t v g = grant-length g m 0 (replicate t v) ∙ length-replicate t v
 
 -- Which writes are accepted on groups, where all ranges are v: the last three tests.
 abbrev last-tests : ℕ → ℕ → ℕ → Reading → ℕ

@@ -18,12 +18,12 @@ use Rattle.code.specs.Calls.{readCells, storing, writeCells, refusal, an
 use Rattle.code.proofs.Wits.{Bytes}
 use Rattle.code.proofs.Cells.{groups-length, turned-ones}
 use Rattle.code.proofs.Conditions.{Layout}
-use Rattle.code.proofs.Grant.{grant-fits, grant-length, grant-meets, grant-least, grant-refused}
+use Rattle.code.proofs.Grant.{grant-fits, grant-meets, grant-least, grant-refused}
 use Rattle.code.proofs.Run.{equal-range, run-same, total-same}
 use Rattle.code.proofs.Tests.{le-or-lt}
 use Rattle.code.proofs.Bytes.{storing-accepted, accepted-is, triedCells, turns, tried-is, turned-blank, accepts-is}
 use Rattle.code.proofs.Replies.{write-tests}
-use Rattle.code.proofs.Calls.{Within, outside-within, layout-none, acceptance}
+use Rattle.code.proofs.Calls.{Within, outside-within, layout-none, granted-length, acceptance}
 
 -- the blank cells of a field
 abbrev pub blank : ℕ → ℕ → ℕ → List ℕ
@@ -36,10 +36,6 @@ module _ (m t v : ℕ) (ok : layoutRefusal m t v 256 ≡ 0) where
   pub fits : getD (granted m t v 256) 0 0 ≤ 256
   unfolding misfit
   fits = ltb-false 256 (getD (granted m t v 256) 0 0) (layout-none m t v 256 ok .1)
-
-  pub counted : length (granted m t v 256) ≡ t
-  unfolding granted
-  counted = grant-length 256 m 0 (replicate t v) ∙ length-replicate t v
 
   pub is-layout : Layout (2 ^ m - 1) 0 (granted m t v 256) (replicate t v)
   unfolding granted
@@ -60,7 +56,7 @@ module _ (m t v : ℕ) (ok : layoutRefusal m t v 256 ≡ 0) where
           eqb (refusal ((3, not s) ∷ (6, leb v x) ∷ (4, unreadable (cond s (read (2 ^ m - 1) 0 hs (replicate t v) gs) unread)) ∷ (5, eqb (generation (cond s (read (2 ^ m - 1) 0 hs (replicate t v) gs) unread)) t) ∷ [])) 0
           ≡ accepted (cond s (storing 0 m (write (2 ^ m - 1) 0 hs (replicate t v) x gs)) refused)
       go false = refl
-      go true = sym (storing-accepted 0 m (write (2 ^ m - 1) 0 hs (replicate t v) x gs) ∙ acceptance (2 ^ m - 1) hs t v is-layout counted (omega (arith, within .v-low)) x gs (groups-length m (getD hs 0 0) (wit 0 bs)))
+      go true = sym (storing-accepted 0 m (write (2 ^ m - 1) 0 hs (replicate t v) x gs) ∙ acceptance (2 ^ m - 1) hs t v is-layout (granted-length m t v 256) (omega (arith, within .v-low)) x gs (groups-length m (getD hs 0 0) (wit 0 bs)))
 
   -- so the cells left are those of the rules
   pub leaves-is : (x : ℕ) (bs : List ℕ) → writeLeaves m t v x bs ≡ triedCells 0 m 0 (granted m t v 256) (replicate t v) x bs
@@ -126,7 +122,7 @@ module _ (m t v : ℕ) (ok : layoutRefusal m t v 256 ≡ 0) where
       let vs : List ℕ = replicate t v in
       refused-not (getD xs j 0) (run (writeLeaves m t v) (blank m t v) (take j xs))
       ∙ rw (run-same (writeLeaves m t v) (triedCells 0 m 0 hs vs) leaves-is (blank m t v) (take j xs))
-      (rw counted at (accepts-is 0 m 0 hs vs is-layout (omega (arith, within .m-low)) xs j (equal-range 0 t v 0 xs b) l))
+      (rw (granted-length m t v 256) at (accepts-is 0 m 0 hs vs is-layout (omega (arith, within .m-low)) xs j (equal-range 0 t v 0 xs b) l))
 
 -- Demand 3, first half: the granted list meets a to d within g and is count for count at most every list that meets them.
 pub layout-granted : (m t v g : ℕ) → layoutRefusal m t v g ≡ 0 →

@@ -9,8 +9,7 @@ use lib.ListN.{length, getD, take, replicate, length-take, length-append, length
 use lib.Seq.{take-at}
 use borrow.Author.Tests.{lt-ltb, le-ltb, ltb-false}
 use Rattle.code.specs.Calls.{filled, refusal, answer, outside, misfit, granted, layoutRefusal, layoutReply}
-use Rattle.code.proofs.Grant.{grant-length}
-use Rattle.code.proofs.Calls.{outside-within, layout-none}
+use Rattle.code.proofs.Calls.{outside-within, layout-none, granted-length}
 
 -- a list and zeros behind it, in n places
 padded : (n k : ℕ) (xs : List ℕ) → length xs ≤ n → n ≤ k → take n (xs ++ replicate k 0) ≡ xs ++ replicate (n - length xs) 0
@@ -30,10 +29,6 @@ zeros-behind (x ∷ xs) n (suc i) = zeros-behind xs n i
 pub filled-length : (n : ℕ) (reply : List ℕ) → length (filled n reply) ≡ n
 unfolding filled
 filled-length n reply = simp (length-take, length-append, length-replicate) (omega arith)
-
-pub granted-length : (m t v g : ℕ) → length (granted m t v g) ≡ t
-unfolding granted
-granted-length m t v g = grant-length g m 0 (replicate t v) ∙ length-replicate t v
 
 module _ (m t v g : ℕ) where
   pub reply-outside : outside m t v g ≡ true → 1 ∷ replicate 16 0 ≡ filled 17 (layoutReply m t v g)
@@ -73,3 +68,6 @@ module _ (m t v g k : ℕ) (h : List ℕ) (promise : k ∷ h ≡ filled 17 (layo
 
     pub reply-count : (i : ℕ) → getD h i 0 ≡ getD (granted m t v g) i 0
     reply-count i = rw reply-list (zeros-behind (granted m t v g) (16 - t) i)
+
+    pub reply-enough : t ≤ length h
+    reply-enough = omega (arith, ap length reply-list, length-append (granted m t v g) (replicate (16 - t) 0), granted-length m t v g)

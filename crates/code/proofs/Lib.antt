@@ -30,3 +30,4 @@ pub mod Records
 pub mod Walk
 pub mod Exporting
 pub mod Steps
+pub mod Closing

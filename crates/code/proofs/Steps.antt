@@ -34,7 +34,7 @@ module _ (bytes : List ℕ) (at : ℕ) where
   reply-inside h l s e = ap (outcome bytes) (e ∙ sym (step-inside h l))
 
   -- a step stops with a refusal
-  abbrev Refusing : Step → Type 0
+  abbrev pub Refusing : Step → Type 0
   Refusing (taken serial m t v start count) = Unit {0}
   Refusing ended = Unit {0}
   Refusing (stopped k carried) = 0 < k
@@ -48,7 +48,7 @@ module _ (bytes : List ℕ) (at : ℕ) where
       go true = tt
       go false = omega arith
 
-  step-refusing : Refusing (step bytes at)
+  pub step-refusing : Refusing (step bytes at)
   unfolding step
   step-refusing = go (ltb 65536 (length bytes)) (ltb at (length bytes))
     where

@@ -14,7 +14,8 @@ use Rattle.code.specs.Calls.{readCells, granted, layoutRefusal, fieldRea
 use Rattle.code.proofs.Conditions.{holds-room}
 use Rattle.code.proofs.Groups.{upto-grows, blank-zeros, erase-blank}
 use Rattle.code.proofs.Field.{past-next, Ready, read-past, pictured, write-blank, write-read, write-taken}
-use Rattle.code.proofs.Demand.{within, counted, is-layout}
+use Rattle.code.proofs.Calls.{granted-length}
+use Rattle.code.proofs.Demand.{within, is-layout}
 
 module _ (m t v : ℕ) (ok : layoutRefusal m t v 256 ≡ 0) where
   range-at : (n : ℕ) → n < t → getD (replicate t v) n 0 ≡ v
@@ -22,7 +23,7 @@ module _ (m t v : ℕ) (ok : layoutRefusal m t v 256 ≡ 0) where
 
   -- there is room for every number of the range, and its pattern has values below 2^m
   pub room-for : (n x : ℕ) → n < t → x < v → x < room (2 ^ m - 1) (base (2 ^ m - 1) n) (start 0 n) (getD (granted m t v 256) n 0) (getD (granted m t v 256) (suc n) 0)
-  room-for n x l h = omega (arith, range-at n l, holds-room (2 ^ m - 1) 0 (granted m t v 256) (replicate t v) n (is-layout m t v ok .holds) (omega (arith, counted m t v ok)))
+  room-for n x l h = omega (arith, range-at n l, holds-room (2 ^ m - 1) 0 (granted m t v 256) (replicate t v) n (is-layout m t v ok .holds) (omega (arith, granted-length m t v 256)))
 
   pub pattern-small : (n x : ℕ) → n < t → x < v →
       Upto (2 ^ m - 1) (pattern (2 ^ m - 1) (base (2 ^ m - 1) n) (start 0 n) (getD (granted m t v 256) n 0) (getD (granted m t v 256) (suc n) 0) x)
@@ -30,7 +31,7 @@ module _ (m t v : ℕ) (ok : layoutRefusal m t v 256 ≡ 0) where
   pattern-small n x l h =
       let e = 2 ^ m - 1 in
       let y = is-layout m t v ok in
-      let p = pictured e 0 (granted m t v 256) (replicate t v) y n x (omega (arith, counted m t v ok)) (omega (arith, range-at n l)) in
+      let p = pictured e 0 (granted m t v 256) (replicate t v) y n x (omega (arith, granted-length m t v 256)) (omega (arith, range-at n l)) in
       upto-grows (base e n) e (base-most e n) (pattern e (base e n) (start 0 n) (getD (granted m t v 256) n 0) (getD (granted m t v 256) (suc n) 0) x) (p .small)
     where
       base-most : (e n : ℕ) → base e n ≤ e
@@ -52,7 +53,7 @@ module _ (m t v : ℕ) (ok : layoutRefusal m t v 256 ≡ 0) where
   first-write x gs z h =
       let w = within m t v ok in
       write-blank (2 ^ m - 1) 0 (granted m t v 256) (replicate t v) x gs z
-      ∙ write-taken (2 ^ m - 1) 0 (granted m t v 256) (replicate t v) x gs 0 (omega (arith, counted m t v ok, w .t-low)) (omega (arith, range-at 0 (omega (arith, w .t-low))))
+      ∙ write-taken (2 ^ m - 1) 0 (granted m t v 256) (replicate t v) x gs 0 (omega (arith, granted-length m t v 256, w .t-low)) (omega (arith, range-at 0 (omega (arith, w .t-low))))
 
   pub next-write : (x i y : ℕ) (gs : List ℕ) → 0 < written gs → x < v → read (2 ^ m - 1) 0 (granted m t v 256) (replicate t v) gs ≡ reads i y → i < t →
       (write (2 ^ m - 1) 0 (granted m t v 256) (replicate t v) x gs ≡ wrote (suc i) (after (2 ^ m - 1) 0 (granted m t v 256) i x gs)) × Ready (granted m t v 256) i gs
@@ -60,7 +61,7 @@ module _ (m t v : ℕ) (ok : layoutRefusal m t v 256 ≡ 0) where
   next-write x i y gs z h r l =
       let q = read-past (2 ^ m - 1) 0 (granted m t v 256) (replicate t v) gs i y r in (
         write-read (2 ^ m - 1) 0 (granted m t v 256) (replicate t v) x gs (reads i y) z r
-            ∙ write-taken (2 ^ m - 1) 0 (granted m t v 256) (replicate t v) x gs i (omega (arith, counted m t v ok)) (omega (arith, range-at i l)),
+            ∙ write-taken (2 ^ m - 1) 0 (granted m t v 256) (replicate t v) x gs i (omega (arith, granted-length m t v 256)) (omega (arith, range-at i l)),
         rw q (past-next (granted m t v 256) (zeros gs)),
       )
 

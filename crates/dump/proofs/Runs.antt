@@ -1,15 +1,18 @@
--- Steps made one after the other, from 0 on, give the walk.
-use Prim.Native.Nat.{ℕ, _+_, _-_}
-use mathlib.Core.Path.{_≡_, refl}
+-- The calls made one after the other: steps from 0 on give the walk, and walks by a few rows at a time come to an end.
+use Prim.Native.Nat.{ℕ, _+_, _*_, _-_, _≤_, _<_}
+use mathlib.Core.Path.{_≡_, refl, sym, ap, _∙_}
 use mathlib.Core.List.{List, [], _∷_}
-use lib.ListN.{length}
+use native.Mathlib.Omega.{arith}
+use lib.ListN.{length, getD}
 use Rattle.code.specs.Dump as Code
 use Rattle.code.proofs.Walk.{walk-ended, walk-stopped, onward-start, onward-taken}
+use Rattle.code.proofs.Closing.{walk-few, walk-onward}
 use Rattle.field.specs.declared.Reading.{Reading}
-use Rattle.dump.specs.Answers.{haltNumber, haltCarries, stepOf}
+use Rattle.dump.specs.Answers.{haltNumber, haltCarries, stepOf, walkedOf}
 use Rattle.dump.specs.declared.Halt.{Halt}
 use Rattle.dump.specs.declared.Step.{Step}
 use Rattle.dump.specs.declared.Step.the-variants.{Record, End, Stop}
+use Rattle.dump.specs.declared.Walked.{Walked}
 use Rattle.dump.proofs.Steps.{gives-record, gives-end, gives-stop}
 
 -- steps as their promise allows them, each at the place behind the record before, to the end or a stop
@@ -38,3 +41,11 @@ steps-onward {bytes} {at} (onwards serial m t v start count outcome e rest) =
 -- Stepping from 0 gives exactly the walk.
 pub steps-walk : {bytes : List ℕ} {rs : List Step} → Stepping bytes 0 rs → replies rs ≡ outcomes bytes (Code.walk bytes)
 steps-walk {bytes} s = rw (onward-start bytes) (steps-onward s)
+
+-- A walk fills no more rows than fit; and one that has room, and meets neither the end nor a refusal, goes on, so that walks from each `next` come to an end.
+module _ (bytes : List ℕ) (at : ℕ) (rows : List ℕ) (w : Walked) (e : walkedOf w ≡ Code.walkReply bytes at rows) where
+  pub walked-few : 10 * w .rows ≤ length rows
+  walked-few = omega (arith, ap (λ l. getD l 2 0) e, walk-few bytes at rows)
+
+  pub walked-onward : 10 ≤ length rows → at ≤ length bytes → w .refusal ≡ 0 → w .ended ≡ 0 → (at < w .next) × (w .next ≤ length bytes)
+  walked-onward some l r f = rw (ap (λ l. getD l 3 0) e) (walk-onward bytes at rows some l (ap (λ l. getD l 0 0) (sym e) ∙ r) (ap (λ l. getD l 4 0) (sym e) ∙ f))

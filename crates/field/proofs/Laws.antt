@@ -13,7 +13,8 @@ use Rattle.code.specs.Field.{past, base, start}
 use Rattle.code.specs.Calls.{filled, granted, layoutRefusal, layoutReply}
 use Rattle.code.proofs.Conditions.{head-most}
 use Rattle.code.proofs.Demand.{within, fits, is-layout}
-use Rattle.code.proofs.LayoutReply.{granted-length, reply-number, reply-counts, reply-count}
+use Rattle.code.proofs.Calls.{granted-length}
+use Rattle.code.proofs.LayoutReply.{reply-number, reply-counts, reply-count}
 use Rattle.field.specs.Answers.{Granted}
 
 -- n generations are passed, and what is left of the list says how many more

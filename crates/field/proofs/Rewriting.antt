@@ -17,9 +17,9 @@ use Rattle.code.specs.Calls.{filled, granted, layoutReply, writeReply, writeLea
 use Rattle.code.proofs.Cells.{groups-length}
 use Rattle.code.proofs.Groups.{zeros-blank, zeros-written}
 use Rattle.code.proofs.Field as Code
-use Rattle.code.proofs.Demand.{counted, is-layout}
+use Rattle.code.proofs.Demand.{is-layout}
 use Rattle.code.proofs.LayoutReply.{reply-number}
-use Rattle.code.proofs.Calls.{read-most}
+use Rattle.code.proofs.Calls.{granted-length, read-most}
 use Rattle.code.proofs.Replies.{Refuses, write-no-layout, write-unsound, write-large, write-unread, write-spent, write-made}
 use Rattle.code.proofs.Writes.{field-read, first-write, next-write}
 use Rattle.cells.specs.Cells.{Spread, Rewritten}
@@ -69,7 +69,7 @@ module _ {m t v : ℕ} {h : List ℕ} (G : Granted m t v h) (x : ℕ) (bs : List
 
         module _ (e : f .generation ≢ t) (n : ℕ) (N : Next (f .generation) z (getD h 0 0) n) where
           below : f .generation < t
-          below = lt-of-le-ne (read-most (2 ^ m - 1) (granted m t v 256) t v (is-layout m t v (G .ok)) (counted m t v (G .ok)) (omega (arith, b)) gs (f .generation) (f .number) reading) e
+          below = lt-of-le-ne (read-most (2 ^ m - 1) (granted m t v 256) t v (is-layout m t v (G .ok)) (granted-length m t v 256) (omega (arith, b)) gs (f .generation) (f .number) reading) e
 
           full : length gs ≡ getD h 0 0
           unfolding gs

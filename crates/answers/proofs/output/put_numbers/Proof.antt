@@ -1,0 +1,31 @@
+-- `answers::output::put_numbers` meets its contract. Assumes nothing.
+use mathlib.Core.Path.{_≡_}
+use Prim.Native.Nat.{_-_, _≤_}
+use borrow.Author.Needs.{needs}
+use lib.ListN.{length}
+use Rattle.answers.specs.Bounds.{Fits}
+use Rattle.answers.proofs.output.put_numbers.Statement.{statement}
+use Rattle.answers.proofs.output.put_numbers.Tie as tie
+
+abbrev Inv-loop : tie.InvT-loop
+Inv-loop out₀ at word numbers place₀ i₀ out place i = (length out ≡ length out₀) × Fits place out × (i ≤ length numbers)
+
+abbrev μ-loop : tie.MeasureT-loop
+μ-loop out₀ at word numbers place₀ i₀ out place i = length numbers - i
+
+pub put-numbers-spec : {M : Type 1} → statement M
+put-numbers-spec =
+    tie.close
+    (tie.spec
+    Inv-loop
+    μ-loop
+    (λ c κs. search needs)
+    (λ c. search needs)
+    (λ c. search needs)
+    (λ c. search needs)
+    (λ c κs. search needs)
+    (λ c. search needs)
+    (λ c. search needs)
+    (λ c. search needs)
+    (λ c. search needs)
+    (λ c. search needs))

@@ -1,0 +1,20 @@
+-- What the functions of this program need in order to stay within what they are lent.
+use Prim.Native.Nat.{ℕ, _≤_}
+use mathlib.Core.List.{List}
+use lib.ListN.{length, getD}
+use Rattle.answers.specs.declared.input.Window.{Window}
+use Rattle.answers.specs.declared.protocol.Call.{Call}
+
+-- a place of an output that has room for any piece of text
+abbrev pub Fits : ℕ → List ℕ → Type 0
+Fits at out = (at ≤ length out) × (64 ≤ length out)
+
+-- what is not yet answered stands within the buffer
+abbrev pub Held : Window → List ℕ → Type 0
+Held w buffer = (w .at ≤ w .end) × (w .end ≤ length buffer)
+
+-- a call and its bytes stand within the bytes that it was read from, and the output that it asks for is within the limit
+pub record Within (c : Call) (bytes : List ℕ) : Type 0 where
+  pub forward : c .start ≤ c .end
+  pub inside : c .end ≤ length bytes
+  pub limited : getD (c .numbers) 4 0 ≤ 1024

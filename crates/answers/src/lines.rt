@@ -1,0 +1,187 @@
+// The lines that answer a call.
+use crate::output;
+use crate::protocol::Broken;
+use dump::Exported;
+use field::Reading;
+use field::Writing;
+ghost use Prim.Native.Nat.{_+_, _*_, _≤_};
+ghost use lib.ListN.{length};
+ghost use Rattle.answers.specs.Bounds.{Fits};
+
+// The numbers of a record's row, and those of them that a record has whose cells are refused.
+const ROW: usize = 10;
+
+const REFUSED: usize = 7;
+
+fn put_counts(out: &mut [u8], at: usize, h: &[u64], count: usize) -> usize
+    requires { ⌜ Fits at (now out) × (count ≤ length (now h)) ⌝ }
+    ensures { λ r. ⌜ Fits r (now (out .exit)) ⌝ }
+{
+    output::put_line(out, at, b"layout 0", &h[..count])
+}
+
+pub fn put_layout(out: &mut [u8], at: usize, m: u64, t: u64, v: u64, g: u64) -> usize
+    requires { ⌜ Fits at (now out) ⌝ }
+    ensures { λ r. ⌜ Fits r (now (out .exit)) ⌝ }
+{
+    let l = gorvlime::lay_out(m, t, v, g);
+    if l.refusal != 0 {
+        return output::put_line(out, at, b"layout", &[l.refusal]);
+    }
+    let h = l.h;
+    put_counts(out, at, &h, t as usize)
+}
+
+pub fn put_read(out: &mut [u8], at: usize, m: u64, t: u64, v: u64, cells: &[u8]) -> usize
+    requires { ⌜ Fits at (now out) ⌝ }
+    ensures { λ r. ⌜ Fits r (now (out .exit)) ⌝ }
+{
+    match gorvlime::read(m, t, v, cells) {
+        Reading::Read {
+            generation,
+            number,
+            left,
+        } => output::put_line(out, at, b"read", &[0, generation, number, left]),
+        Reading::Refused(refusal) => output::put_line(out, at, b"read", &[refusal]),
+    }
+}
+
+fn put_writing(out: &mut [u8], at: usize, answer: Writing) -> usize
+    requires { ⌜ Fits at (now out) ⌝ }
+    ensures { λ r. ⌜ Fits r (now (out .exit)) ⌝ }
+{
+    match answer {
+        Writing::Written { generation, turned } => {
+            output::put_numbers(out, at, b"write", &[0, generation, turned])
+        }
+        Writing::Refused(refusal) => output::put_numbers(out, at, b"write", &[refusal]),
+    }
+}
+
+pub fn put_write(
+    out: &mut [u8],
+    at: usize,
+    m: u64,
+    t: u64,
+    v: u64,
+    number: u64,
+    cells: &mut [u8],
+) -> usize
+    requires { ⌜ Fits at (now out) ⌝ }
+    ensures { λ r. ⌜ Fits r (now (out .exit)) ⌝ }
+{
+    let place = put_writing(out, at, gorvlime::write(m, t, v, cells, number));
+    output::put_hex(out, place, cells)
+}
+
+fn put_exported(out: &mut [u8], at: usize, answer: Exported) -> usize
+    requires { ⌜ Fits at (now out) ⌝ }
+    ensures { λ r. ⌜ Fits r (now (out .exit)) ⌝ }
+{
+    match answer {
+        Exported::Stored(count) => output::put_numbers(out, at, b"export", &[0, count as u64]),
+        Exported::Refused(refusal) => output::put_numbers(out, at, b"export", &[refusal]),
+    }
+}
+
+fn put_export_into(
+    out: &mut [u8],
+    at: usize,
+    serial: u64,
+    m: u64,
+    t: u64,
+    v: u64,
+    cells: &[u8],
+    lent: &mut [u8],
+    room: usize,
+) -> usize
+    requires { ⌜ Fits at (now out) × (room ≤ length (now lent)) ⌝ }
+    ensures { λ r. ⌜ Fits r (now (out .exit)) ⌝ }
+{
+    let answer = gorvlime::export(serial, m, t, v, cells, &mut lent[..room]);
+    let place = put_exported(out, at, answer);
+    output::put_hex(out, place, &lent[..room])
+}
+
+// The output is lent filled with A5.
+pub fn put_export(
+    out: &mut [u8],
+    at: usize,
+    serial: u64,
+    m: u64,
+    t: u64,
+    v: u64,
+    room: usize,
+    cells: &[u8],
+) -> usize
+    requires { ⌜ Fits at (now out) × (room ≤ 1024) ⌝ }
+    ensures { λ r. ⌜ Fits r (now (out .exit)) ⌝ }
+{
+    let mut lent = [0xa5u8; 1024];
+    put_export_into(out, at, serial, m, t, v, cells, &mut lent, room)
+}
+
+// A line for each record, and one for how the walk ends.
+pub fn put_walk(out: &mut [u8], at: usize, dump: &[u8], rows: &mut [u64]) -> usize
+    requires { ⌜ Fits at (now out) × (10 ≤ length (now rows)) ⌝ }
+    ensures { λ r. ⌜ Fits r (now (out .exit)) ⌝ }
+{
+    let mut place = at;
+    let mut next: usize = 0;
+    loop {
+        let w = gorvlime::walk(dump, next, rows);
+        place = put_records(out, place, rows, w.rows as usize);
+        if w.refusal != 0 {
+            return put_stop(out, place, w.refusal, w.offset);
+        }
+        if w.ended != 0 {
+            return output::put_word(out, place, b"end\n");
+        }
+        next = w.next as usize;
+    }
+}
+
+fn put_records(out: &mut [u8], at: usize, rows: &[u64], count: usize) -> usize
+    requires { ⌜ Fits at (now out) × (10 * count ≤ length (now rows)) ⌝ }
+    ensures { λ r. ⌜ Fits r (now (out .exit)) ⌝ }
+{
+    let mut place = at;
+    let mut i = 0;
+    while i < count {
+        place = put_record(out, place, rows, ROW * i);
+        i += 1;
+    }
+    place
+}
+
+// The line of the row that starts at a place.
+fn put_record(out: &mut [u8], at: usize, rows: &[u64], from: usize) -> usize
+    requires { ⌜ Fits at (now out) × (from + 10 ≤ length (now rows)) ⌝ }
+    ensures { λ r. ⌜ Fits r (now (out .exit)) ⌝ }
+{
+    if rows[from + 6] == 0 {
+        return output::put_line(out, at, b"record", &rows[from..from + ROW]);
+    }
+    output::put_line(out, at, b"record", &rows[from..from + REFUSED])
+}
+
+fn put_stop(out: &mut [u8], at: usize, refusal: u64, offset: u64) -> usize
+    requires { ⌜ Fits at (now out) ⌝ }
+    ensures { λ r. ⌜ Fits r (now (out .exit)) ⌝ }
+{
+    if refusal == 8 {
+        return output::put_line(out, at, b"stop", &[refusal]);
+    }
+    output::put_line(out, at, b"stop", &[refusal, offset])
+}
+
+pub fn put_broken(out: &mut [u8], at: usize, why: Broken) -> usize
+    requires { ⌜ Fits at (now out) ⌝ }
+    ensures { λ r. ⌜ Fits r (now (out .exit)) ⌝ }
+{
+    match why {
+        Broken::CutOff => output::put_word(out, at, b"cut off\n"),
+        Broken::NoSuchCall => output::put_word(out, at, b"no such call\n"),
+        Broken::TooLong => output::put_word(out, at, b"too long\n"),
+    }
+}

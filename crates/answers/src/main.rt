@@ -1,0 +1,107 @@
+// Answers the stream of calls on standard input, a line for each on standard output. A call is an operation byte, its numbers as 8 bytes each, low byte first, then, where
+// it has bytes, their count as 8 bytes and the bytes:
+//
+//     1 layout   m t v g                        layout 0 h_1 .. h_t | layout N
+//     2 read     m t v, cells                   read 0 generation number left | read N
+//     3 write    m t v number, cells            write 0 generation turned CELLS | write N CELLS
+//     4 export   serial m t v outlen, cells     export 0 length OUT | export N OUT
+//     5 walk     dump                           record serial m t v start length 0 generation number left, or
+//                                               record serial m t v start length N, for each; end | stop 7 offset | stop 8
+//
+// CELLS and OUT are the lent bytes afterwards in hex, left out where there are none. A stream that can't be followed ends with `cut off`, `no such call` or `too long`.
+mod input;
+mod lines;
+mod output;
+mod protocol;
+
+use input::Window;
+use protocol::Call;
+use protocol::Kind;
+ghost use Prim.Native.Nat.{_≤_};
+ghost use lib.ListN.{length};
+ghost use Rattle.answers.specs.Bounds.{Fits, Held, Within};
+
+fn main() {
+    let mut buffer = [0u8; 81920];
+    let mut rows = [0u64; 640];
+    let mut out = [0u8; 8192];
+    answer_all(&mut buffer, &mut rows, &mut out);
+}
+
+// How far a stream is answered. What is not yet written of the text stands in the output before a place.
+struct State {
+    window: Window,
+    place: usize,
+    over: bool,
+}
+
+// A proved loop has to end, and nothing says that a stream does: the turns are counted down, from a number that no run uses up.
+fn answer_all(buffer: &mut [u8], rows: &mut [u64], out: &mut [u8])
+    requires { ⌜ (65586 ≤ length (now buffer)) × (10 ≤ length (now rows)) × Fits 0 (now out) ⌝ }
+{
+    let mut turns = u64::MAX;
+    let window = Window {
+        at: 0,
+        end: 0,
+        ended: false,
+    };
+    let mut s = State {
+        window,
+        place: 0,
+        over: false,
+    };
+    while 0 < turns && !s.over {
+        s = answer_next(buffer, s, rows, out);
+        turns -= 1;
+    }
+    output::write_out(out, s.place);
+}
+
+fn answer_next(buffer: &mut [u8], s: State, rows: &mut [u64], out: &mut [u8]) -> State
+    requires { ⌜ Held (s .window) (now buffer) × (65586 ≤ length (now buffer)) × (10 ≤ length (now rows)) × Fits (s .place) (now out) ⌝ }
+    ensures { λ r. ⌜ Held (r .window) (now (buffer .exit)) × Fits (r .place) (now (out .exit)) ⌝ }
+{
+    let window = input::refill(buffer, s.window);
+    let at = window.at;
+    let end = window.end;
+    if at == end {
+        return State {
+            window,
+            place: s.place,
+            over: true,
+        };
+    }
+    let call = protocol::read_call(&buffer[at..end]);
+    let place = answer(call, &mut buffer[at..end], rows, out, s.place);
+    let rest = Window {
+        at: at + call.end,
+        end,
+        ended: window.ended,
+    };
+    State {
+        window: rest,
+        place,
+        over: call.end == 0,
+    }
+}
+
+fn answer(call: Call, bytes: &mut [u8], rows: &mut [u64], out: &mut [u8], at: usize) -> usize
+    requires { ⌜ Within call (now bytes) × (10 ≤ length (now rows)) × Fits at (now out) ⌝ }
+    ensures { λ r. ⌜ Fits r (now (out .exit)) ⌝ }
+{
+    let kind = call.kind;
+    let n = call.numbers;
+    let start = call.start;
+    let end = call.end;
+    match kind {
+        Kind::Layout => lines::put_layout(out, at, n[0], n[1], n[2], n[3]),
+        Kind::Read => lines::put_read(out, at, n[0], n[1], n[2], &bytes[start..end]),
+        Kind::Write => lines::put_write(out, at, n[0], n[1], n[2], n[3], &mut bytes[start..end]),
+        Kind::Export => {
+            let room = n[4] as usize;
+            lines::put_export(out, at, n[0], n[1], n[2], n[3], room, &bytes[start..end])
+        }
+        Kind::Walk => lines::put_walk(out, at, &bytes[start..end], rows),
+        Kind::Broken(why) => lines::put_broken(out, at, why),
+    }
+}
