@@ -1,13 +1,16 @@
 // Text gathered in a lent output, which is written to standard output where a piece might not fit: each call answers the place behind what it stored.
+ghost use mathlib.Core.Path.{_≡_};
 ghost use Prim.Native.Nat.{_+_, _≤_, _<_};
 ghost use lib.ListN.{length};
 ghost use Rattle.answers.specs.Bounds.{Fits};
 
-// Writes the text before a place. A write that fails is the end of the output, and no one is left to be told.
-pub fn write_out(out: &[u8], at: usize)
+// Writes the text before a place, and answers where the next begins. A write that fails is the end of the output, and no one is left to be told.
+pub fn write_out(out: &[u8], at: usize) -> usize
     requires { ⌜ at ≤ length (now out) ⌝ }
+    ensures { λ r. ⌜ r ≡ 0 ⌝ }
 {
     io::write_all(1, &out[..at]);
+    0
 }
 
 // A place with so many bytes behind it.
@@ -18,8 +21,7 @@ fn make_room(out: &[u8], at: usize, need: usize) -> usize
     if need <= out.len() - at {
         return at;
     }
-    write_out(out, at);
-    0
+    write_out(out, at)
 }
 
 pub fn put_word(out: &mut [u8], at: usize, word: &[u8]) -> usize
