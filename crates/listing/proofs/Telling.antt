@@ -1,14 +1,14 @@
 -- What each step makes of the text of a listing.
 use Prim.Native.Nat.{ℕ, _+_, _-_, _≤_, _<_}
 use mathlib.Core.Path.{_≡_, refl, _∙_}
-use mathlib.Core.Bool.{false}
+use mathlib.Core.Bool.{false, cond}
 use mathlib.Core.List.{List, [], _++_, append-nil, append-assoc}
 use native.Mathlib.Omega.{arith}
 use native.Mathlib.Numerals.{add-one}
 use lib.ListN.{length, take, drop}
 use lib.Seq.{take-at}
 use Rattle.code.specs.Dump.{stepReply, recordLine, lastLine, lines, textFrom}
-use Rattle.code.proofs.Tests.{clash}
+use Rattle.code.proofs.Tests.{clash, same-test}
 use Rattle.code.proofs.Replies.{read-refusing}
 use Rattle.code.proofs.Walk.{walk-ended, walk-stopped, onward-taken}
 use Rattle.field.specs.Answers.{readingOf}
@@ -44,6 +44,11 @@ module _ (bytes : List ℕ) (at : ℕ) {s : Step} (gives : stepOf s ≡ stepRepl
   stop-text : (count : ℕ) {halt : Halt} → s ≡ Stop halt → textFrom bytes at count ≡ haltLines count halt
   unfolding lines
   stop-text count {halt} e = rw (walk-stopped (length bytes - at) bytes at (haltNumber halt) (haltCarries halt) (gives-stop bytes at gives e))
+
+pub same-listing : {s r : Listing} → s .next ≡ r .next → s .count ≡ r .count → _≡_ {A = ℕ} (cond (s .over) 1 0) (cond (r .over) 1 0) → s .kept ≡ r .kept → s ≡ r
+same-listing {s} {r} a b c d =
+    let o : s .over ≡ r .over = same-test (s .over) (r .over) c in
+    λ i. record { next = a i; count = b i; over = o i; kept = d i }
 
 -- so each step's lines are told
 module _ {bytes : List ℕ} {l : Listing} {before after : List ℕ} {at : ℕ} {r : Told} (on : l .over ≡ false) where

@@ -1,7 +1,9 @@
 -- `listing::go_on` meets its contract. Assumes nothing.
 use mathlib.Core.Path.{refl}
+use mathlib.Core.Bool.{false}
 use native.Mathlib.Omega.{arith}
 use borrow.Author.Needs.{needs}
+use Rattle.code.proofs.Tests.{same-test}
 use Rattle.listing.proofs.go_on.Statement.{statement}
 use Rattle.listing.proofs.go_on.Tie as tie
 
@@ -12,4 +14,4 @@ go-on-spec =
     -- add
     (λ c. search needs)
     -- returns
-    (λ c. record { counted = omega arith; on = refl; further = refl; standing = record { right = c .before .pre .3; few = omega arith; within = omega arith } }))
+    (λ c. record { counted = omega arith; on = same-test _ false (omega arith); further = refl; standing = record { right = c .before .pre .3; few = omega arith; within = omega arith } }))

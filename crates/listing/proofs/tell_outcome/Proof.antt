@@ -4,6 +4,7 @@ use native.Mathlib.Omega.{arith}
 use borrow.Author.Needs.{needs}
 use Rattle.field.specs.Answers.{readingOf}
 use Rattle.text.proofs.Laws.{wider}
+use Rattle.listing.proofs.Telling.{same-listing}
 use Rattle.listing.proofs.tell_outcome.Statement.{statement}
 use Rattle.listing.proofs.tell_outcome.Tie as tie
 
@@ -22,8 +23,8 @@ tell-outcome-spec =
     -- same-length
     (λ c. search needs)
     -- returns
-    (λ c. (refl, rw (c .before .before .before .before .before .outcome .given .1) (c .before .before .put-reading-line .ensures)))
+    (λ c. (same-listing refl refl (omega arith) refl, rw (c .before .before .before .before .before .outcome .given .1) (c .before .before .put-reading-line .ensures)))
     -- same-length-2
     (λ c. search needs)
     -- returns-2
-    (λ c. (refl, rw (c .before .before .before .before .before .outcome2 .given .1) (wider (omega arith) (c .before .before .put-refusal-line .ensures)))))
+    (λ c. (same-listing refl refl (omega arith) refl, rw (c .before .before .before .before .before .outcome2 .given .1) (wider (omega arith) (c .before .before .put-refusal-line .ensures)))))
