@@ -9,6 +9,7 @@ demo:
 test:
 	@tools/setup
 	@rt fmt --check
+	@tests/run-docs
 	@cd second && cargo test --release --offline --quiet && cargo build --release --offline --quiet
 	@rt check fieldlist gorvlime answers
 	@tests/run-listings
