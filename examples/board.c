@@ -2,8 +2,8 @@
  * A counter in write-once cells, as board firmware keeps it: size the cells, write, read back, export.
  *
  *     rt staticlib gorvlime
- *     tools/cc examples/board.c target/staticlib/libgorvlime.a -o board
- *     tools/run-c board
+ *     tools/cc examples/board.c target/staticlib/libgorvlime.a -o target/board
+ *     tools/run-c target/board
  */
 #include "gorvlime.h"
 
