@@ -35,7 +35,7 @@ unfoldable pub answer : ℕ → List ℕ → List ℕ
 answer zero values = 0 ∷ values
 answer (suc k) values = suc k ∷ []
 
--- a reply in n fields, 0 in those that it lacks, as a struct or a row has them
+-- docs/DECISIONS.md, 4: a reply in n fields, 0 in those that it lacks, as a struct or a row has them
 unfoldable pub filled : ℕ → List ℕ → List ℕ
 filled n reply = take n (reply ++ replicate n 0)
 
@@ -63,7 +63,7 @@ layoutReply m t v g = answer (layoutRefusal m t v g) (granted m t v g)
 unfoldable pub fieldRead : ℕ → ℕ → ℕ → List ℕ → Reading
 fieldRead m t v bytes = readCells 0 m 0 (granted m t v 256) (replicate t v) bytes
 
--- the same of writing
+-- the same sentence, of write
 unfoldable pub fieldWrite : ℕ → ℕ → ℕ → ℕ → List ℕ → Writing
 fieldWrite m t v x bytes = writeCells 0 m 0 (granted m t v 256) (replicate t v) x bytes
 
@@ -81,7 +81,7 @@ unfoldable pub generation : Reading → ℕ
 generation unread = 0
 generation (reads i x) = i
 
--- its number
+-- 01, Reading: the number of a reading
 unfoldable pub holds : Reading → ℕ
 holds unread = 0
 holds (reads i x) = x

@@ -19,12 +19,12 @@ unfoldable pub value : (ℕ → ℕ) → ℕ → ℕ → ℕ
 value f w zero = 0
 value f w (suc n) = 2 * value f w n + f (w + n)
 
--- f i, f (i + 1), .., n of them
+-- "from 0": f i, f (i + 1), .., n of them
 unfoldable pub listed : (ℕ → ℕ) → ℕ → ℕ → List ℕ
 listed f i zero = []
 listed f i (suc n) = f i ∷ listed f (suc i) n
 
--- f 0 + .. + f (n − 1)
+-- 01, Writing: "add up": f 0 + .. + f (n − 1)
 unfoldable pub sum : (ℕ → ℕ) → ℕ → ℕ
 sum f zero = 0
 sum f (suc n) = sum f n + f n
@@ -37,7 +37,7 @@ group m f j = value f (m * j) m
 unfoldable pub groups : ℕ → ℕ → (ℕ → ℕ) → List ℕ
 groups m h f = listed (group m f) 0 h
 
--- the groups in a buffer
+-- 01, Cells in bytes: the groups in a buffer
 abbrev pub opened : ℕ → ℕ → ℕ → List ℕ → List ℕ
 opened order m h bytes = groups m h (wit order bytes)
 
@@ -49,15 +49,15 @@ size m h = (m * h + 7) / 8
 unfoldable pub sound : ℕ → ℕ → ℕ → List ℕ → Bool
 sound order m h bytes = eqb (length bytes) (size m h) && eqb (value (wit order bytes) (m * h) (8 * length bytes - m * h)) 0
 
--- the way back, from groups to their buffer: wit w of groups of m wits, 0 past the last
+-- the same sentences backwards: wit w of groups of m wits, "the bits left over are 0"
 unfoldable pub witOf : ℕ → List ℕ → ℕ → ℕ
 witOf m gs w = getD gs (w / m) 0 / 2 ^ (m - 1 - w % m) % 2
 
--- byte i of wits, each at its place
+-- "Wit w is bit 7 − (w mod 8) of byte w div 8", backwards: byte i of wits
 unfoldable pub byteOf : ℕ → (ℕ → ℕ) → ℕ → ℕ
 byteOf order f i = sum (λ k. f (8 * i + k) * 2 ^ place order k) 8
 
--- the buffer of groups
+-- 01, Cells in bytes: the buffer of groups
 unfoldable pub stored : ℕ → ℕ → List ℕ → List ℕ
 stored order m gs = listed (byteOf order (witOf m gs)) 0 (size m (length gs))
 

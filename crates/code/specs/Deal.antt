@@ -37,11 +37,11 @@ laid b (suc s) (suc k) r d =
     (suc (d / b ^ k) ∷ laid b s k (r - choose s (suc k)) (d % b ^ k))
     (0 ∷ laid b s (suc k) r d)
 
--- how many places the pattern of number x writes: the first k whose patterns reach past x
+-- "the count of patterns with fewer written places", backwards: the first k whose patterns reach past x
 unfoldable pub places : ℕ → ℕ → ℕ → ℕ → ℕ
 places b first s x = least (λ k. ltb x (fewer b s first (suc k))) 0 s
 
--- the pattern of s places that has number x
+-- "Its number is", backwards: the pattern of s places that has number x
 unfoldable pub deal : ℕ → ℕ → ℕ → ℕ → List ℕ
 deal b first s x =
     let k = places b first s x in
@@ -53,7 +53,7 @@ unfoldable pub plain : ℕ → List ℕ → ℕ
 plain b [] = 0
 plain b (x ∷ xs) = x * b ^ length xs + plain b xs
 
--- the same: the s digits of a number
+-- the same sentence: the s digits of a number
 unfoldable pub plainly : ℕ → ℕ → ℕ → List ℕ
 plainly b zero x = []
 plainly b (suc s) x = x / b ^ s ∷ plainly b s (x % b ^ s)

@@ -35,7 +35,7 @@ pub data Numbers : Type 0 where
   cut : Numbers
   numbers : List ℕ → ℕ → Numbers
 
--- one number more in front
+-- "as numbers", one after the other: one more in front
 unfoldable pub preceded : ℕ → Numbers → Numbers
 preceded x cut = cut
 preceded x (numbers xs end) = numbers (x ∷ xs) end
@@ -90,7 +90,7 @@ outcome bytes (taken serial m t v start count) = 0 ∷ serial ∷ m ∷ t ∷ v 
 outcome bytes ended = 0 ∷ []
 outcome bytes (stopped k carried) = k ∷ carried
 
--- the reply of one step
+-- the walk's step at a place, as a reply
 unfoldable pub stepReply : List ℕ → ℕ → List ℕ
 stepReply bytes at = outcome bytes (step bytes at)
 
@@ -107,35 +107,35 @@ walkFrom (suc fuel) bytes at = elim (step bytes at) [
 unfoldable pub walk : List ℕ → List Step
 walk bytes = walkFrom (suc (length bytes)) bytes 0
 
--- the steps from a place on, with just enough fuel
+-- "up to its end": the steps from a place on, with just enough fuel
 abbrev pub onward : List ℕ → ℕ → List Step
 onward bytes at = walkFrom (suc (length bytes - at)) bytes at
 
--- the walk into lent rows: ten numbers for each record, which are serial, m, t, v, the start and count of its cells, and the reply to reading them, 0 where it lacks a number
+-- docs/DECISIONS.md, 22: the walk into lent rows, ten numbers for each record, which are serial, m, t, v, the start and count of its cells, and the reply to reading them, 0 where it lacks a number
 unfoldable pub rowsOf : List ℕ → List Step → List ℕ
 rowsOf bytes [] = []
 rowsOf bytes (taken serial m t v start count ∷ steps) = (serial ∷ m ∷ t ∷ v ∷ start ∷ count ∷ filled 4 (readReply m t v (take count (drop start bytes)))) ++ rowsOf bytes steps
 rowsOf bytes (ended ∷ steps) = []
 rowsOf bytes (stopped k carried ∷ steps) = []
 
--- after so many rows: the refusal and its offset, the rows filled, where the next step would start, and 1 where the end was reached
+-- the same entry: after so many rows the refusal and its offset, the rows filled, where the next step would start, and 1 where the end was reached
 unfoldable pub closing : ℕ → ℕ → List Step → List ℕ
 closing at rows [] = 0 ∷ 0 ∷ rows ∷ at ∷ 0 ∷ []
 closing at rows (taken serial m t v start count ∷ steps) = closing (start + count) (suc rows) steps
 closing at rows (ended ∷ steps) = 0 ∷ 0 ∷ rows ∷ at ∷ 1 ∷ []
 closing at rows (stopped k carried ∷ steps) = k ∷ getD carried 0 0 ∷ rows ∷ at ∷ 0 ∷ []
 
--- as many steps as whole rows fit; a dump that is too long is refused before the first
+-- docs/DECISIONS.md, 23: as many steps as whole rows fit; a dump that is too long is refused before the first
 unfoldable pub walkReply : List ℕ → ℕ → List ℕ → List ℕ
 walkReply bytes at rows = cond (ltb 65536 (length bytes)) (8 ∷ 0 ∷ 0 ∷ 0 ∷ 0 ∷ []) (closing at 0 (walkFrom (length rows / 10) bytes at))
 
--- the rows filled, and behind them what stood there
+-- the same entry: the rows filled, and behind them what stood there
 unfoldable pub walkLeaves : List ℕ → ℕ → List ℕ → List ℕ
 walkLeaves bytes at rows =
     let made = rowsOf bytes (walkFrom (length rows / 10) bytes at) in
     made ++ drop (length made) rows
 
--- the bytes of a text
+-- the bytes of a text that "`fieldlist` .. prints"
 unfoldable pub ascii : String → List ℕ
 ascii nothing = []
 ascii (c before text) = code c ∷ ascii text
@@ -172,10 +172,10 @@ lines bytes count (taken serial m t v start n ∷ steps) = recordLine serial (re
 lines bytes count (ended ∷ steps) = lastLine count
 lines bytes count (stopped k carried ∷ steps) = stopLines count k carried
 
--- the text from a place on, after so many records
+-- the same from a place on, after so many records
 abbrev pub textFrom : List ℕ → ℕ → ℕ → List ℕ
 textFrom bytes at count = lines bytes count (onward bytes at)
 
--- the text that `fieldlist` prints of a dump
+-- "`fieldlist` reads standard input and prints": the text of a dump
 unfoldable pub listing : List ℕ → List ℕ
 listing bytes = lines bytes 0 (walk bytes)

@@ -2,17 +2,17 @@
 use Prim.Native.Nat.{ℕ, _≤_, _<_}
 use mathlib.Core.List.{List, [], _∷_}
 
--- every number is at most b
+-- 01, Dealing: "Values 1 to 2^m − 1": every number is at most b
 abbrev pub Upto : ℕ → List ℕ → Type 0
 Upto b [] = Unit {0}
 Upto b (x ∷ xs) = (x ≤ b) × Upto b xs
 
--- every number is below v
+-- demand 3: "numbers in range": every number is below v
 abbrev pub Below : ℕ → List ℕ → Type 0
 Below v [] = Unit {0}
 Below v (x ∷ xs) = (x < v) × Below v xs
 
--- as many numbers, and none of the first list is above its fellow in the second
+-- demand 3: "count for count, no larger than any": as many numbers, and none of the first list is above its fellow in the second
 abbrev pub Rises : List ℕ → List ℕ → Type 0
 Rises [] [] = Unit {0}
 Rises [] (y ∷ ys) = ⊥
