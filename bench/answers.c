@@ -1,16 +1,6 @@
 /*
- * Answers a stream of calls on standard input, a line for each on standard output. With GORVLIME defined the archive
- * answers, and else plain C. A call is an operation byte, its numbers as 8 bytes each, low byte first, then, where it has
- * bytes, their count as 8 bytes and the bytes:
- *
- *     1 layout   m t v g                        layout 0 h_1 .. h_t | layout N
- *     2 read     m t v, cells                   read 0 generation number left | read N
- *     3 write    m t v number, cells            write 0 generation turned CELLS | write N CELLS
- *     4 export   serial m t v outlen, cells     export 0 length OUT | export N OUT
- *     5 walk     dump                           record serial m t v start length 0 generation number left, or
- *                                               record serial m t v start length N, for each; end | stop 7 offset | stop 8
- *
- * CELLS and OUT are the lent bytes afterwards in hex, left out where there are none.
+ * Answers a stream of calls on standard input, a line for each on standard output, as crates/answers/src/main.rt tells. With
+ * GORVLIME defined the archive answers, and else plain C.
  */
 #include "chosen.h"
 

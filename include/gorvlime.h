@@ -36,11 +36,11 @@ enum gorvlime_refusal {
     GORVLIME_SERIAL = 10,       /* export                the serial is above 2^63 - 1                       */
     GORVLIME_BOUNDS = 1,        /* all with m, t, v      m, t, v or g is outside its bounds                 */
     GORVLIME_NO_ROOM = 2,       /* all with m, t, v      the field needs more than g groups                 */
-    GORVLIME_CELLS = 3,         /* read, write, export   wrong count of bytes, or a left-over bit is 1      */
+    GORVLIME_CELLS = 3,         /* read, write, export   another count of bytes, or a 1 behind the last wit */
     GORVLIME_NUMBER = 6,        /* write                 the number is v or more                            */
     GORVLIME_NO_READING = 4,    /* read, write           the cells have no reading: no writes leave them so */
     GORVLIME_SPENT = 5,         /* write                 all t generations are written                      */
-    GORVLIME_OUTPUT = 9,        /* export                the output is shorter than the record              */
+    GORVLIME_OUTPUT = 9,        /* export                the record does not fit into the output            */
     GORVLIME_DUMP = 8,          /* step, walk            the dump has more than 65,536 bytes                */
     GORVLIME_MALFORMED = 7      /* step, walk            no whole record stands at the offset               */
 };

@@ -1,6 +1,6 @@
-//! Calls as a stream of bytes: "an operation byte, its numbers as 8 bytes each,
-//! low byte first, then, where the call has bytes, their count as 8 bytes and
-//! the bytes".
+//! Calls as a stream of bytes: one byte says which call it is, its numbers follow
+//! as eight bytes each from the low one up, and cells or a dump as one number
+//! more, which counts them, and the bytes themselves.
 
 use crate::layout::Shape;
 use std::io::{self, ErrorKind, Read};

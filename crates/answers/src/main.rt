@@ -1,5 +1,5 @@
-// Answers the stream of calls on standard input, a line for each on standard output. A call is an operation byte, its numbers as 8 bytes each, low byte first, then, where
-// it has bytes, their count as 8 bytes and the bytes:
+// Answers the stream of calls on standard input, a line for each on standard output. A call is a byte that says which it is and its numbers, each as eight bytes from the
+// low one up; cells or a dump follow as one number more, which counts them, and the bytes themselves:
 //
 //     1 layout   m t v g                        layout 0 h_1 .. h_t | layout N
 //     2 read     m t v, cells                   read 0 generation number left | read N
