@@ -1,4 +1,5 @@
--- Reading and writing on bytes: an accepted write reads back, no wit falls, the turned counts add up, and demand 3, for either order of bits, any start of generation 1 and a range for each generation.
+-- Reading and writing on bytes: an accepted write reads back, no wit falls, the turned counts add up, and demand 3, for either order of bits, any start of
+-- generation 1 and a range for each generation.
 use Prim.Native.Nat.{ℕ, zero, suc, _+_, _*_, _-_, _^_, _≤_, _<_}
 use mathlib.Core.Path.{_≡_, refl, sym, ap, _∙_}
 use mathlib.Core.Bool.{Bool, true, false, cond}
@@ -8,14 +9,14 @@ use native.Mathlib.Nat.{le-refl}
 use lib.ListN.{length, getD, take, replicate, length-replicate}
 use lib.Dec.{leb}
 use Rattle.code.specs.Cells.{wit, sum, opened, size, sound, stored, ones, turned}
-use Rattle.code.specs.Field.{reads, Writing, refused, wrote, write}
+use Rattle.code.specs.Field.{Writing, refused, wrote, write}
 use Rattle.code.specs.Run.{accepted, kept, run, total, opening}
 use Rattle.code.specs.Calls.{readCells, storing, writeCells}
 use Rattle.code.specs.Lists.{Upto}
 use Rattle.code.proofs.Wits.{Bytes}
 use Rattle.code.proofs.Cells.{groups-length, sound-told, sound-length, stored-wit, stored-bytes, stored-length, stored-opened, stored-sound, grows-wit, turned-ones, blank-wit, blank-stored, upto-all, none-at}
 use Rattle.code.proofs.Conditions.{Layout}
-use Rattle.code.proofs.Field.{write-is}
+use Rattle.code.proofs.Field.{Tells, write-is}
 use Rattle.code.proofs.Run.{InRange, tried}
 use Rattle.code.proofs.Run as groupwise
 
@@ -59,7 +60,7 @@ module _ (o m first : ℕ) (hs vs : List ℕ) where
     pub right : sound o m (getD hs 0 0) bs′ ≡ true
     pub bytes : Bytes bs′
     pub long : length bs′ ≡ length bs
-    pub reading : readCells o m first hs vs bs′ ≡ reads i x
+    pub reading : Tells (readCells o m first hs vs bs′) i x
     pub rises : (w : ℕ) → wit o bs w ≤ wit o bs′ w
     pub gained : turned o bs bs′ + ones o bs ≡ ones o bs′
 
@@ -73,7 +74,8 @@ module _ (o m first : ℕ) (hs vs : List ℕ) where
     buffer : (gs : List ℕ) → length gs ≡ getD hs 0 0 → Upto (2 ^ m - 1) gs → Buffer gs (stored o m gs)
     buffer gs l u = record { right = rw l at (stored-sound o m gs pos); back = rw l at (stored-opened o m gs pos u); bytes = stored-bytes o m gs pos }
 
-    stored-write : (x : ℕ) (gs : List ℕ) → length gs ≡ getD hs 0 0 → Upto (2 ^ m - 1) gs → writeCells o m first hs vs x (stored o m gs) ≡ storing o m (write (2 ^ m - 1) first hs vs x gs)
+    stored-write : (x : ℕ) (gs : List ℕ) → length gs ≡ getD hs 0 0 → Upto (2 ^ m - 1) gs →
+        writeCells o m first hs vs x (stored o m gs) ≡ storing o m (write (2 ^ m - 1) first hs vs x gs)
     unfolding writeCells
     stored-write x gs l u = let b = buffer gs l u in rw (b .right, b .back)
 
@@ -97,7 +99,7 @@ module _ (o m first : ℕ) (hs vs : List ℕ) where
           right = b .right;
           bytes = b .bytes;
           long = n;
-          reading = rw (b .right, b .back) (a .reading);
+          reading = rw (b .back) (a .reading);
           rises = up;
           gained = turned-ones o bs (stored o m gs′) n up;
         })
@@ -109,21 +111,26 @@ module _ (o m first : ℕ) (hs vs : List ℕ) where
     left-is x bs refused B w = (B, turned-ones o bs bs refl (λ k. le-refl (wit o bs k)), λ k. le-refl (wit o bs k))
     left-is x bs (wrote i bs′) B w = let a = accepted-is x bs i bs′ B w in (a .bytes, a .gained, a .rises)
 
-    pub tried-is : (x : ℕ) (bs : List ℕ) → Bytes bs → Bytes (triedCells o m first hs vs x bs) × (turned o bs (triedCells o m first hs vs x bs) + ones o bs ≡ ones o (triedCells o m first hs vs x bs))
+    pub tried-is : (x : ℕ) (bs : List ℕ) → Bytes bs →
+        Bytes (triedCells o m first hs vs x bs) × (turned o bs (triedCells o m first hs vs x bs) + ones o bs ≡ ones o (triedCells o m first hs vs x bs))
         × ((k : ℕ) → wit o bs k ≤ wit o (triedCells o m first hs vs x bs) k)
     unfolding triedCells
     tried-is x bs B = left-is x bs (writeCells o m first hs vs x bs) B refl
 
-    turned-is : (bs xs : List ℕ) → Bytes bs → total (turns o m first hs vs) (triedCells o m first hs vs) bs xs + ones o bs ≡ ones o (run (triedCells o m first hs vs) bs xs)
+    turned-is : (bs xs : List ℕ) → Bytes bs →
+        total (turns o m first hs vs) (triedCells o m first hs vs) bs xs + ones o bs ≡ ones o (run (triedCells o m first hs vs) bs xs)
     unfolding total run
     turned-is bs [] B = omega arith
     turned-is bs (x ∷ xs) B = let q = tried-is x bs B in omega (arith, q .1, turned-is (triedCells o m first hs vs x bs) xs (q .0))
 
-    pub turned-blank : (xs : List ℕ) → total (turns o m first hs vs) (triedCells o m first hs vs) (replicate (size m (getD hs 0 0)) 0) xs ≡ ones o (run (triedCells o m first hs vs) (replicate (size m (getD hs 0 0)) 0) xs)
+    pub turned-blank : (xs : List ℕ) →
+        total (turns o m first hs vs) (triedCells o m first hs vs) (replicate (size m (getD hs 0 0)) 0) xs ≡ ones o
+        (run (triedCells o m first hs vs) (replicate (size m (getD hs 0 0)) 0) xs)
     turned-blank xs = let n = size m (getD hs 0 0) in omega (arith, turned-is (replicate n 0) xs (λ i l. omega (arith, none-at n i)), ones-blank o n)
 
     -- The run of the buffer is that of its groups.
-    kept-good : (x : ℕ) (gs : List ℕ) (w : Writing) → length gs ≡ getD hs 0 0 → Upto (2 ^ m - 1) gs → write (2 ^ m - 1) first hs vs x gs ≡ w → (length (kept gs w) ≡ getD hs 0 0) × Upto (2 ^ m - 1) (kept gs w)
+    kept-good : (x : ℕ) (gs : List ℕ) (w : Writing) → length gs ≡ getD hs 0 0 → Upto (2 ^ m - 1) gs → write (2 ^ m - 1) first hs vs x gs ≡ w →
+        (length (kept gs w) ≡ getD hs 0 0) × Upto (2 ^ m - 1) (kept gs w)
     unfolding kept
     kept-good x gs refused l u q = (l, u)
     kept-good x gs (wrote i gs′) l u q = let a = write-is (2 ^ m - 1) first hs vs y x gs i gs′ l q in (a .long ∙ l, a .small)
@@ -138,9 +145,11 @@ module _ (o m first : ℕ) (hs vs : List ℕ) where
         let k = kept-good x gs w l u refl in
         rw (stored-write x gs l u, storing-kept o m gs w) (run-stored (kept gs w) xs (k .0) (k .1))
 
-    -- Demand 3: from the blank buffer, write j + 1 of a sequence in range is accepted exactly when j + 1 less the opening zeros is at most the number of generations.
+    -- Demand 3: from the blank buffer, write j + 1 of a sequence in range is accepted exactly when j + 1 less the opening zeros is at most the number of
+    -- generations.
     pub accepts-is : (xs : List ℕ) (j : ℕ) → InRange first vs 0 xs → j < length xs →
-        accepted (writeCells o m first hs vs (getD xs j 0) (run (triedCells o m first hs vs) (replicate (size m (getD hs 0 0)) 0) (take j xs))) ≡ leb (suc j - opening first xs) (length hs)
+        accepted (writeCells o m first hs vs (getD xs j 0) (run (triedCells o m first hs vs) (replicate (size m (getD hs 0 0)) 0) (take j xs))) ≡ leb
+        (suc j - opening first xs) (length hs)
     accepts-is xs j b l =
         let h = getD hs 0 0 in
         let e = 2 ^ m - 1 in

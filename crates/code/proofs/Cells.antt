@@ -163,7 +163,8 @@ module _ (o m : ℕ) (gs : List ℕ) (pos : 0 < m) where
   stored-sound =
       let bs : List ℕ = stored o m gs in
       rw (eq-eqb (length bs) (size m (length gs)) stored-length) (eq-eqb (value (wit o bs) (m * length gs) (8 * length bs - m * length gs)) 0
-      (value-none (wit o bs) (m * length gs) (8 * length bs - m * length gs) (λ i l. stored-wit (m * length gs + i) ∙ witOf-past m gs (m * length gs + i) pos (omega arith))))
+      (value-none (wit o bs) (m * length gs) (8 * length bs - m * length gs)
+      (λ i l. stored-wit (m * length gs + i) ∙ witOf-past m gs (m * length gs + i) pos (omega arith))))
 
 -- where groups grow, no wit falls
 grows-at : (e : ℕ) (xs ys : List ℕ) (j : ℕ) → Grows e xs ys → (getD xs j 0 ≡ 0) ⊎ ((getD ys j 0 ≡ getD xs j 0) ⊎ (getD ys j 0 ≡ e))
@@ -182,7 +183,8 @@ grows-wit m xs ys w pos g = elim (grows-at (2 ^ m - 1) xs ys (w / m) g) [
 ]
 
 -- the turned count is the ones after less the ones before
-pub turned-ones : (o : ℕ) (before after : List ℕ) → length after ≡ length before → ((w : ℕ) → wit o before w ≤ wit o after w) → turned o before after + ones o before ≡ ones o after
+pub turned-ones : (o : ℕ) (before after : List ℕ) → length after ≡ length before → ((w : ℕ) → wit o before w ≤ wit o after w) →
+    turned o before after + ones o before ≡ ones o after
 unfolding turned ones
 turned-ones o before after n g = rw n (sum-difference (wit o before) (wit o after) (8 * length before) g)
 

@@ -24,16 +24,17 @@ closes (suc room) bytes at done = go (step bytes at) refl (step-refusing bytes a
   where
     go : (s : Step) → step bytes at ≡ s → Refusing bytes at s → ((next rows : ℕ) → Closed bytes next rows room (closing next rows (walkFrom room bytes next))) →
         Closed bytes at done (suc room) (closing at done (walkFrom (suc room) bytes at))
-    go (taken serial m t v start count) q p ih =
-        let f = step-forward bytes at serial m t v start count q in
-        let w = ih (start + count) (suc done) in
-        rw (walk-taken room bytes at serial m t v start count q) record {
+    go (taken r) q p ih =
+        let f = step-forward bytes at r q in
+        let w = ih (r .start + r .count) (suc done) in
+        rw (walk-taken room bytes at r q) record {
           few = omega (arith, w .few);
           within = λ h. w .within (f .2);
           onward = λ r e. let o = w .onward r e in (omega (arith, o .0, f .1), λ h. omega (arith, o .0, f .1));
         }
     go ended q p ih = rw (walk-ended room bytes at q) record { few = omega arith; within = λ h. h; onward = λ r e. absurd (omega arith) }
-    go (stopped k carried) q p ih = rw (walk-stopped room bytes at k carried q) record { few = omega arith; within = λ h. h; onward = λ r e. absurd (omega arith) }
+    go (stopped k carried) q p ih =
+        rw (walk-stopped room bytes at k carried q) record { few = omega arith; within = λ h. h; onward = λ r e. absurd (omega arith) }
 
 module _ (bytes : List ℕ) (at : ℕ) (rows : List ℕ) where
   walked : length bytes ≤ 65536 → Closed bytes at 0 (length rows / 10) (walkReply bytes at rows)

@@ -8,7 +8,8 @@ use Rattle.code.specs.Count.{fewer}
 use Rattle.code.specs.Layout.{Meets, room}
 use Rattle.code.specs.Field.{base, start}
 
--- each count is above the next, 0 after the last, and has room for its range; the first of the list has b values from `first` places on, the others e − 1 from 1 on
+-- each count is above the next, 0 after the last, and has room for its range; the first of the list has b values from `first` places on, the others e − 1
+-- from 1 on
 unfoldable pub Holds : ℕ → ℕ → ℕ → List ℕ → List ℕ → Type 0
 Holds e b first [] [] = Unit {0}
 Holds e b first [] (v ∷ vs) = ⊥
@@ -51,7 +52,8 @@ later-room e (h ∷ hs) [] n m l = absurd m
 later-room e (h ∷ hs) (v ∷ vs) zero m l = m .1
 later-room e (h ∷ hs) (v ∷ vs) (suc n) m l = later-room e hs vs n (m .2) (omega arith)
 
-pub holds-room : (e first : ℕ) (hs vs : List ℕ) (n : ℕ) → Holds e e first hs vs → n < length hs → getD vs n 0 ≤ room e (base e n) (start first n) (getD hs n 0) (getD hs (suc n) 0)
+pub holds-room : (e first : ℕ) (hs vs : List ℕ) (n : ℕ) → Holds e e first hs vs → n < length hs →
+    getD vs n 0 ≤ room e (base e n) (start first n) (getD hs n 0) (getD hs (suc n) 0)
 unfolding Holds base start
 holds-room e first [] vs n m l = absurd (omega arith)
 holds-room e first (h ∷ hs) [] n m l = absurd m
@@ -138,7 +140,8 @@ module _ (m first : ℕ) (hs vs : List ℕ) (two : 2 ≤ length vs) where
         many = sym n;
         a-falls = λ i l. holds-falls e e first hs vs i y (omega arith);
         a-ends = z .0;
-        b = rw (room-inner e e first (getD hs 0 0) (getD hs 1 0) (holds-positive e e first hs vs 1 y (omega arith))) at (holds-room e first hs vs 0 y (omega arith));
+        b = rw (room-inner e e first (getD hs 0 0) (getD hs 1 0) (holds-positive e e first hs vs 1 y (omega arith)))
+            at (holds-room e first hs vs 0 y (omega arith));
         c = λ i p l. rw q (later i p l);
         d = z .1;
       }
@@ -147,4 +150,5 @@ module _ (m first : ℕ) (hs vs : List ℕ) (two : 2 ≤ length vs) where
       later zero p l = absurd (omega arith)
       later (suc i) p l =
           let e = 2 ^ m - 1 in
-          rw (room-inner e (e - 1) 1 (getD hs (suc i) 0) (getD hs (suc (suc i)) 0) (holds-positive e e first hs vs (suc (suc i)) y l)) at (holds-room e first hs vs (suc i) y (omega arith))
+          rw (room-inner e (e - 1) 1 (getD hs (suc i) 0) (getD hs (suc (suc i)) 0) (holds-positive e e first hs vs (suc (suc i)) y l))
+          at (holds-room e first hs vs (suc i) y (omega arith))

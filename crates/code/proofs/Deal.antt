@@ -46,7 +46,8 @@ laid-is b pos (suc s) (suc k) r d hr hd = elim (le-or-lt (choose s (suc k)) r) [
       })
   | inr h ↦
       let ih = laid-is b pos s (suc k) r d h hd in
-      rw (lt-leb (choose s (suc k)) r h) (record { long = ap suc (ih .long); marks = ih .marks; ranked = ih .ranked; digit = ih .digit; small = (omega arith, ih .small) })
+      rw (lt-leb (choose s (suc k)) r h)
+      (record { long = ap suc (ih .long); marks = ih .marks; ranked = ih .ranked; digit = ih .digit; small = (omega arith, ih .small) })
 ]
 
 -- the k of a number x that d places reach
@@ -66,7 +67,8 @@ places-are : (b first s d x k : ℕ) → d ≤ s → x < fewer b s first (suc d)
 unfolding places past-x
 places-are b first s d x k h hx q =
     let t = lt-ltb x (fewer b s first (suc d)) hx in
-    let past : x < fewer b s first (suc k) = ltb-true x (fewer b s first (suc k)) (rw q at (least-found (past-x b first s x) 0 s d (omega arith) (omega arith) t)) in (
+    let past : x < fewer b s first (suc k) =
+    ltb-true x (fewer b s first (suc k)) (rw q at (least-found (past-x b first s x) 0 s d (omega arith) (omega arith) t)) in (
       elim (le-or-lt first k) [ inl l ↦ l | inr g ↦ absurd (omega (arith, fewer-none b s first (suc k) g)) ],
       omega (arith, least-le (past-x b first s x) 0 s d (omega arith) t),
       below-past b first s x k q,
@@ -89,7 +91,14 @@ deal-is b first s d x pos h hx =
     let e : ℕ = x - fewer b s first k in
     let he : e < choose s k * b ^ k = omega (arith, q .2, q .3, fewer-step b s first k (q .0)) in
     let l = laid-is b pos s k (e / b ^ k) (e % b ^ k) (div-lt-iff-lt-mul (one-le-pow k b pos) .1 he) (mod-lt e (one-le-pow k b pos)) in
-    record { long = l .long; low = rw (l .marks) (q .0); high = rw (l .marks) (q .1); small = l .small; back = rw (l .long, l .marks, l .ranked, l .digit) (omega (arith, q .2, div-add-mod' e (b ^ k))) }
+    record {
+      long = l .long;
+      low = rw (l .marks) (q .0);
+      high = rw (l .marks) (q .1);
+      small = l .small;
+      back =
+          rw (l .long, l .marks, l .ranked, l .digit) (omega (arith, q .2, div-add-mod' e (b ^ k)));
+    }
 
 -- The way back.
 pub rank-below : (p : List ℕ) → rank p < choose (length p) (written p)
@@ -110,7 +119,8 @@ laid-zero b s zero r d h = refl
 laid-zero b s (suc k) r d h = rw (lt-leb (choose s (suc k)) r h)
 
 -- the way back by labels: the first written place has the highest label i whose binomial still fits
-pub laid-jump : (b n i k r d : ℕ) → choose i (suc k) ≤ r → r < choose (suc i) (suc k) → laid b (suc (n + i)) (suc k) r d ≡ replicate n 0 ++ (suc (d / b ^ k) ∷ laid b i k (r - choose i (suc k)) (d % b ^ k))
+pub laid-jump : (b n i k r d : ℕ) → choose i (suc k) ≤ r → r < choose (suc i) (suc k) →
+    laid b (suc (n + i)) (suc k) r d ≡ replicate n 0 ++ (suc (d / b ^ k) ∷ laid b i k (r - choose i (suc k)) (d % b ^ k))
 unfolding laid
 laid-jump b zero i k r d h l = rw (zero-add i, le-leb (choose i (suc k)) r h)
 laid-jump b (suc n) i k r d h l =
@@ -123,7 +133,13 @@ laid-back b [] u = refl
 laid-back b (zero ∷ p) u = rw (laid-zero b (length p) (written p) (rank p) (digits b p) (rank-below p), laid-back b p (u .1))
 laid-back b (suc x ∷ p) u =
     let h = digits-below b p (u .1) in
-    rw (le-leb (choose (length p) (suc (written p))) (choose (length p) (suc (written p)) + rank p) (omega arith), digits-div x h, digits-mod x h, add-sub-cancel-left, laid-back b p (u .1))
+    rw (
+      le-leb (choose (length p) (suc (written p))) (choose (length p) (suc (written p)) + rank p) (omega arith),
+      digits-div x h,
+      digits-mod x h,
+      add-sub-cancel-left,
+      laid-back b p (u .1),
+    )
 
 pub number-below : (b first : ℕ) (p : List ℕ) → Upto b p → first ≤ written p → number b first p < fewer b (length p) first (suc (written p))
 unfolding number
@@ -183,3 +199,14 @@ unfolding plain written
 plain-written b [] h = h
 plain-written b (zero ∷ p) h = plain-written b p (omega arith)
 plain-written b (suc x ∷ p) h = omega arith
+
+-- The pattern that writes nothing has number 0.
+blank-parts : (b : ℕ) (p : List ℕ) → written p ≡ 0 → (rank p ≡ 0) × (digits b p ≡ 0)
+unfolding written rank digits
+blank-parts b [] h = (refl, refl)
+blank-parts b (zero ∷ p) h = blank-parts b p h
+blank-parts b (suc x ∷ p) h = absurd (omega arith)
+
+pub blank-number : (b first : ℕ) (p : List ℕ) → written p ≡ 0 → number b first p ≡ 0
+unfolding number fewer
+blank-number b first p h = let q = blank-parts b p h in rw (h, q .0, q .1, pow-zero)

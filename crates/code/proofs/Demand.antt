@@ -1,148 +1,171 @@
--- Demand 3 of the replies themselves: what holds of every m, t and v for which a layout is granted.
+-- The three demands of the calls' replies, for every shape.
 use Prim.Native.Nat.{ℕ, zero, suc, _+_, _-_, _^_, _≤_, _<_}
 use mathlib.Core.Path.{_≡_, refl, sym, ap, _∙_}
-use mathlib.Core.Bool.{Bool, true, false, cond, not, true≢false}
+use mathlib.Core.Logic.{inl, inr}
+use mathlib.Core.Bool.{false, true≢false}
 use mathlib.Core.List.{List, [], _∷_}
 use native.Mathlib.Omega.{arith}
 use native.Mathlib.Nat.{le-refl}
-use lib.ListN.{length, getD, take, replicate, length-replicate}
-use lib.Dec.{leb, eqb}
-use mathlib.Core.Logic.{inl, inr}
-use borrow.Author.Tests.{ltb-false, lt-ltb, le-ltb, eqb-true}
+use lib.ListN.{length, getD, take, replicate}
+use lib.Dec.{leb}
+use borrow.Author.Tests.{ltb-false, lt-ltb, le-ltb, ne-eqb}
+use Rattle.code.specs.declared.Shape.{Shape}
+use Rattle.code.specs.Shape.{firstOf, rangesOf, orderOf, outside, granted, misfit, countsOf, widthOf}
 use Rattle.code.specs.Lists.{Below, Rises}
 use Rattle.code.specs.Layout.{Meets, grant}
-use Rattle.code.specs.Cells.{wit, opened, size, sound, ones, turned}
-use Rattle.code.specs.Field.{unread, reads, read, Writing, refused, wrote, write}
+use Rattle.code.specs.Cells.{wit, size, ones, turned}
+use Rattle.code.specs.Field.{Writing, refused, wrote}
 use Rattle.code.specs.Run.{accepted, kept, run, total, opening}
-use Rattle.code.specs.Calls.{readCells, storing, writeCells, refusal, answer, outside, misfit, granted, layoutRefusal, fieldRead, fieldWrite, unsound, unreadable, generation, holds, left, readRefusal, readReply, writeRefusal, madeAt, writeReply, writeLeaves}
+use Rattle.code.specs.Calls.{refusal, answer, passes, leaves, layoutRefusal, fieldRead, fieldWrite, left, readReply, writeRefusal, madeAt, writeReply, turnedBy, writeLeaves}
+use Rattle.code.specs.Dump.{exportRefusal, exportLeaves}
+use Rattle.code.proofs.Tests.{le-or-lt, clash}
 use Rattle.code.proofs.Wits.{Bytes}
-use Rattle.code.proofs.Cells.{groups-length, turned-ones}
-use Rattle.code.proofs.Conditions.{Layout}
-use Rattle.code.proofs.Grant.{grant-fits, grant-meets, grant-least, grant-refused}
+use Rattle.code.proofs.Cells.{turned-ones}
+use Rattle.code.proofs.Grant.{grant-meets, grant-least, grant-refused}
 use Rattle.code.proofs.Run.{equal-range, run-same, total-same}
-use Rattle.code.proofs.Tests.{le-or-lt}
-use Rattle.code.proofs.Bytes.{storing-accepted, accepted-is, triedCells, turns, tried-is, turned-blank, accepts-is}
-use Rattle.code.proofs.Replies.{write-tests}
-use Rattle.code.proofs.Calls.{Within, outside-within, layout-none, granted-length, acceptance}
+use Rattle.code.proofs.Bytes.{accepted-is, triedCells, turns, tried-is, turned-blank, accepts-is}
+use Rattle.code.proofs.LayoutCall.{outside-within, within-outside, layout-none, ranges-length, counts-length, within, is-layout}
+use Rattle.code.proofs.ReadCall.{read-as}
+use Rattle.code.proofs.WriteCall.{write-some, refused-not, leaves-is}
 
 -- the blank cells of a field
-abbrev pub blank : ℕ → ℕ → ℕ → List ℕ
-blank m t v = replicate (size m (getD (granted m t v 256) 0 0)) 0
+abbrev pub blankCells : Shape → List ℕ
+blankCells s = replicate (size (s .m) (widthOf s)) 0
 
-module _ (m t v : ℕ) (ok : layoutRefusal m t v 256 ≡ 0) where
-  pub within : Within m t v 256
-  within = outside-within m t v 256 (layout-none m t v 256 ok .0)
+-- the cells that a write of x leaves by the rules
+abbrev ruled : Shape → ℕ → List ℕ → List ℕ
+ruled s = triedCells (orderOf s) (s .m) (firstOf s) (countsOf s) (rangesOf s)
 
-  pub fits : getD (granted m t v 256) 0 0 ≤ 256
-  unfolding misfit
-  fits = ltb-false 256 (getD (granted m t v 256) 0 0) (layout-none m t v 256 ok .1)
-
-  pub is-layout : Layout (2 ^ m - 1) 0 (granted m t v 256) (replicate t v)
-  unfolding granted
-  is-layout = grant-fits 256 m 0 (replicate t v) (omega (arith, within .t-low, length-replicate t v)) fits (within .m-low) (omega arith)
-
-  -- A write is refused with no number exactly where the rules make it.
-  pub refused-not : (x : ℕ) (bs : List ℕ) → eqb (writeRefusal m t v x bs) 0 ≡ accepted (fieldWrite m t v x bs)
-  unfolding refusal unsound fieldRead fieldWrite readCells writeCells accepted
-  refused-not x bs = rw (write-tests m t v x bs ok) (go (sound 0 m (getD hs 0 0) bs))
-    where
-      hs : List ℕ
-      hs = granted m t v 256
-
-      gs : List ℕ
-      gs = opened 0 m (getD hs 0 0) bs
-
-      go : (s : Bool) →
-          eqb (refusal ((3, not s) ∷ (6, leb v x) ∷ (4, unreadable (cond s (read (2 ^ m - 1) 0 hs (replicate t v) gs) unread)) ∷ (5, eqb (generation (cond s (read (2 ^ m - 1) 0 hs (replicate t v) gs) unread)) t) ∷ [])) 0
-          ≡ accepted (cond s (storing 0 m (write (2 ^ m - 1) 0 hs (replicate t v) x gs)) refused)
-      go false = refl
-      go true = sym (storing-accepted 0 m (write (2 ^ m - 1) 0 hs (replicate t v) x gs) ∙ acceptance (2 ^ m - 1) hs t v is-layout (granted-length m t v 256) (omega (arith, within .v-low)) x gs (groups-length m (getD hs 0 0) (wit 0 bs)))
-
-  -- so the cells left are those of the rules
-  pub leaves-is : (x : ℕ) (bs : List ℕ) → writeLeaves m t v x bs ≡ triedCells 0 m 0 (granted m t v 256) (replicate t v) x bs
-  unfolding writeLeaves fieldWrite triedCells accepted kept
-  leaves-is x bs = rw (refused-not x bs) (go (fieldWrite m t v x bs))
-    where
-      go : (w : Writing) → cond (accepted w) (kept bs w) bs ≡ kept bs w
-      go refused = refl
-      go (wrote i bs′) = refl
-
-  -- the reply of sound cells that have a reading
-  pub read-as : (bs : List ℕ) (i x : ℕ) → sound 0 m (getD (granted m t v 256) 0 0) bs ≡ true → fieldRead m t v bs ≡ reads i x →
-      readReply m t v bs ≡ 0 ∷ i ∷ x ∷ left t i (opened 0 m (getD (granted m t v 256) 0 0) bs) ∷ []
-  unfolding readReply readRefusal refusal unsound unreadable answer generation holds
-  read-as bs i x s r = let n = layout-none m t v 256 ok in rw (r, n .0, n .1, s)
+module _ (s : Shape) (ok : layoutRefusal s 256 ≡ []) where
+  some : 0 < s .m
+  some = omega (arith, within s ok .m-low)
 
   -- After an accepted write reading gives the generation answered and the number just written.
-  pub reads-back : (x : ℕ) (bs : List ℕ) → Bytes bs → writeRefusal m t v x bs ≡ 0 →
-      let i = getD (writeReply m t v x bs) 1 0 in
-      let after = writeLeaves m t v x bs in
-      readReply m t v after ≡ 0 ∷ i ∷ x ∷ left t i (opened 0 m (getD (granted m t v 256) 0 0) after) ∷ []
-  unfolding writeReply answer madeAt fieldWrite fieldRead triedCells kept accepted
-  reads-back x bs B z = rw (z, leaves-is x bs) (go (fieldWrite m t v x bs) refl)
+  pub reads-back : (x : ℕ) (bs : List ℕ) → Bytes bs → writeRefusal s x bs ≡ [] →
+      let i = getD (writeReply s x bs) 1 0 in
+      let after = writeLeaves s x bs in
+      readReply s after ≡ 0 ∷ i ∷ x ∷ left (s .t) (fieldRead s after) ∷ []
+  unfolding writeReply answer madeAt fieldWrite fieldRead triedCells kept accepted passes widthOf
+  reads-back x bs B z = rw (z, leaves-is s ok x bs) (go (fieldWrite s x bs) refl)
     where
-      go : (w : Writing) → fieldWrite m t v x bs ≡ w → readReply m t v (kept bs w) ≡ 0 ∷ madeAt w ∷ x ∷ left t (madeAt w) (opened 0 m (getD (granted m t v 256) 0 0) (kept bs w)) ∷ []
-      go refused q = absurd (true≢false (rw (z, q) at (refused-not x bs)))
+      go : (w : Writing) → fieldWrite s x bs ≡ w → readReply s (kept bs w) ≡ 0 ∷ madeAt w ∷ x ∷ left (s .t) (fieldRead s (kept bs w)) ∷ []
+      go refused q = absurd (true≢false (rw (z, q) at (refused-not s ok x bs)))
       go (wrote i bs′) q =
-          let a = accepted-is 0 m 0 (granted m t v 256) (replicate t v) is-layout (omega (arith, within .m-low)) x bs i bs′ B q in
-          read-as bs′ i x (a .right) (a .reading)
+          let a = accepted-is (orderOf s) (s .m) (firstOf s) (countsOf s) (rangesOf s) (is-layout s ok) some x bs i bs′ B q in
+          read-as s bs′ ok (a .right) i x (a .reading)
 
   -- No write turns a 1 back to 0, refused or not.
-  pub never-falls : (x : ℕ) (bs : List ℕ) (w : ℕ) → Bytes bs → wit 0 bs w ≤ wit 0 (writeLeaves m t v x bs) w
-  never-falls x bs w B = rw (leaves-is x bs) (tried-is 0 m 0 (granted m t v 256) (replicate t v) is-layout (omega (arith, within .m-low)) x bs B .2 w)
+  pub never-falls : (x : ℕ) (bs : List ℕ) (w : ℕ) → Bytes bs → wit (orderOf s) bs w ≤ wit (orderOf s) (writeLeaves s x bs) w
+  never-falls x bs w B = rw (leaves-is s ok x bs) (tried-is (orderOf s) (s .m) (firstOf s) (countsOf s) (rangesOf s) (is-layout s ok) some x bs B .2 w)
 
   -- The turned count answered is the ones after less the ones before, 0 being answered for a refused write.
-  answered : (x : ℕ) (bs : List ℕ) → getD (writeReply m t v x bs) 2 0 ≡ turned 0 bs (triedCells 0 m 0 (granted m t v 256) (replicate t v) x bs)
-  unfolding writeReply triedCells fieldWrite answer kept accepted
-  answered x bs = go (writeRefusal m t v x bs) (fieldWrite m t v x bs) (refused-not x bs)
+  answered : (x : ℕ) (bs : List ℕ) → turnedBy (writeReply s x bs) ≡ turned (orderOf s) bs (ruled s x bs)
+  unfolding writeReply triedCells fieldWrite answer kept accepted passes turnedBy
+  answered x bs = go (writeRefusal s x bs) refl (fieldWrite s x bs) (refused-not s ok x bs)
     where
-      go : (k : ℕ) (w : Writing) → eqb k 0 ≡ accepted w → getD (answer k (madeAt w ∷ turned 0 bs (kept bs w) ∷ [])) 2 0 ≡ turned 0 bs (kept bs w)
-      go zero w q = refl
-      go (suc k) refused q = omega (arith, turned-ones 0 bs bs refl (λ w. le-refl (wit 0 bs w)))
-      go (suc k) (wrote i bs′) q = absurd (omega (arith, eqb-true (suc k) 0 q))
+      none : turned (orderOf s) bs bs ≡ 0
+      none = omega (arith, turned-ones (orderOf s) bs bs refl (λ w. le-refl (wit (orderOf s) bs w)))
 
-  pub turned-are : (x : ℕ) (bs : List ℕ) → Bytes bs → getD (writeReply m t v x bs) 2 0 + ones 0 bs ≡ ones 0 (writeLeaves m t v x bs)
-  turned-are x bs B = rw (answered x bs, leaves-is x bs) (tried-is 0 m 0 (granted m t v 256) (replicate t v) is-layout (omega (arith, within .m-low)) x bs B .1)
+      go : (r : List ℕ) → writeRefusal s x bs ≡ r → (w : Writing) → passes r ≡ accepted w →
+          turnedBy (answer r (madeAt w ∷ turned (orderOf s) bs (kept bs w) ∷ [])) ≡ turned (orderOf s) bs (kept bs w)
+      go [] e w q = refl
+      go (k ∷ carried) e refused q = rw (none, ne-eqb k 0 (λ z. omega (arith, write-some s x bs k carried e)))
+      go (k ∷ carried) e (wrote i bs′) q = absurd (true≢false (sym q))
+
+  pub turned-are : (x : ℕ) (bs : List ℕ) → Bytes bs → turnedBy (writeReply s x bs) + ones (orderOf s) bs ≡ ones (orderOf s) (writeLeaves s x bs)
+  turned-are x bs B =
+      rw (answered x bs, leaves-is s ok x bs) (tried-is (orderOf s) (s .m) (firstOf s) (countsOf s) (rangesOf s) (is-layout s ok) some x bs B .1)
 
   -- Over any run of writes from blank cells the turned counts add up to the number of ones in the cells.
-  pub turned-add-up : (xs : List ℕ) → total (λ x bs. getD (writeReply m t v x bs) 2 0) (writeLeaves m t v) (blank m t v) xs ≡ ones 0 (run (writeLeaves m t v) (blank m t v) xs)
+  pub turned-add-up : (xs : List ℕ) →
+      total (λ x bs. turnedBy (writeReply s x bs)) (writeLeaves s) (blankCells s) xs ≡ ones (orderOf s) (run (writeLeaves s) (blankCells s) xs)
+  unfolding widthOf
   turned-add-up xs =
-      let hs = granted m t v 256 in
-      let vs : List ℕ = replicate t v in
-      total-same (writeLeaves m t v) (triedCells 0 m 0 hs vs) leaves-is (λ x bs. getD (writeReply m t v x bs) 2 0) (turns 0 m 0 hs vs) answered (blank m t v) xs
-      ∙ turned-blank 0 m 0 hs vs is-layout (omega (arith, within .m-low)) xs
-      ∙ ap (ones 0) (sym (run-same (writeLeaves m t v) (triedCells 0 m 0 hs vs) leaves-is (blank m t v) xs))
+      let hs = countsOf s in
+      let vs = rangesOf s in
+      total-same (writeLeaves s) (ruled s) (leaves-is s ok) (λ x bs. turnedBy (writeReply s x bs)) (turns (orderOf s) (s .m) (firstOf s) hs vs) answered
+      (blankCells s) xs
+      ∙ turned-blank (orderOf s) (s .m) (firstOf s) hs vs (is-layout s ok) some xs
+      ∙ ap (ones (orderOf s)) (sym (run-same (writeLeaves s) (ruled s) (leaves-is s ok) (blankCells s) xs))
 
   -- From blank cells and for any sequence of numbers in range, the j-th write is accepted exactly when j less the zeros that open the sequence is at most t.
-  pub accepted-exactly : (xs : List ℕ) (j : ℕ) → Below v xs → j < length xs →
-      eqb (writeRefusal m t v (getD xs j 0) (run (writeLeaves m t v) (blank m t v) (take j xs))) 0 ≡ leb (suc j - opening 0 xs) t
-  unfolding fieldWrite
+  pub accepted-exactly : (xs : List ℕ) (j : ℕ) → Below (s .v) xs → j < length xs →
+      passes (writeRefusal s (getD xs j 0) (run (writeLeaves s) (blankCells s) (take j xs))) ≡ leb (suc j - opening (firstOf s) xs) (s .t)
+  unfolding fieldWrite widthOf rangesOf
   accepted-exactly xs j b l =
-      let hs = granted m t v 256 in
-      let vs : List ℕ = replicate t v in
-      refused-not (getD xs j 0) (run (writeLeaves m t v) (blank m t v) (take j xs))
-      ∙ rw (run-same (writeLeaves m t v) (triedCells 0 m 0 hs vs) leaves-is (blank m t v) (take j xs))
-      (rw (granted-length m t v 256) at (accepts-is 0 m 0 hs vs is-layout (omega (arith, within .m-low)) xs j (equal-range 0 t v 0 xs b) l))
+      let hs = countsOf s in
+      let vs = rangesOf s in
+      refused-not s ok (getD xs j 0) (run (writeLeaves s) (blankCells s) (take j xs))
+      ∙ rw (run-same (writeLeaves s) (ruled s) (leaves-is s ok) (blankCells s) (take j xs))
+      (rw (counts-length s ok) at
+      (accepts-is (orderOf s) (s .m) (firstOf s) hs vs (is-layout s ok) some xs j (equal-range (firstOf s) (s .t) (s .v) 0 xs b) l))
 
 -- Demand 3, first half: the granted list meets a to d within g and is count for count at most every list that meets them.
-pub layout-granted : (m t v g : ℕ) → layoutRefusal m t v g ≡ 0 →
-    Meets m 0 (granted m t v g) (replicate t v) × (getD (granted m t v g) 0 0 ≤ g) × ((hs : List ℕ) → Meets m 0 hs (replicate t v) → Rises (granted m t v g) hs)
+pub layout-granted : (s : Shape) (g : ℕ) → layoutRefusal s g ≡ [] →
+    Meets (s .m) (firstOf s) (granted s g) (rangesOf s) × (getD (granted s g) 0 0 ≤ g)
+    × ((hs : List ℕ) → Meets (s .m) (firstOf s) hs (rangesOf s) → Rises (granted s g) hs)
 unfolding granted misfit
-layout-granted m t v g ok =
-    let n = layout-none m t v g ok in
-    let t2 : 2 ≤ length (replicate t v) = omega (arith, outside-within m t v g (n .0) .t-low, length-replicate t v) in
-    let f : getD (grant g m 0 (replicate t v)) 0 0 ≤ g = ltb-false g (getD (grant g m 0 (replicate t v)) 0 0) (n .1) in
-    (grant-meets g m 0 (replicate t v) t2 f, f, λ hs y. grant-least g m 0 hs (replicate t v) t2 y .0)
+layout-granted s g ok =
+    let n = layout-none s g ok in
+    let vs = rangesOf s in
+    let t2 : 2 ≤ length vs = omega (arith, outside-within s g (n .0) .t-low, ranges-length s) in
+    let f : getD (grant g (s .m) (firstOf s) vs) 0 0 ≤ g = ltb-false g (getD (grant g (s .m) (firstOf s) vs) 0 0) (n .1) in
+    (grant-meets g (s .m) (firstOf s) vs t2 f, f, λ hs y. grant-least g (s .m) (firstOf s) hs vs t2 y .0)
 
 -- Within the bounds a layout is refused for want of groups exactly when no list that meets a to d fits.
-pub layout-refused : (m t v g : ℕ) → outside m t v g ≡ false →
-    (layoutRefusal m t v g ≡ 2 → (hs : List ℕ) → Meets m 0 hs (replicate t v) → g < getD hs 0 0)
-    × (((hs : List ℕ) → Meets m 0 hs (replicate t v) → g < getD hs 0 0) → layoutRefusal m t v g ≡ 2)
+pub layout-refused : (s : Shape) (g : ℕ) → outside s g ≡ false →
+    (layoutRefusal s g ≡ 2 ∷ [] → (hs : List ℕ) → Meets (s .m) (firstOf s) hs (rangesOf s) → g < getD hs 0 0)
+    × (((hs : List ℕ) → Meets (s .m) (firstOf s) hs (rangesOf s) → g < getD hs 0 0) → layoutRefusal s g ≡ 2 ∷ [])
 unfolding layoutRefusal refusal granted misfit
-layout-refused m t v g w =
-    let t2 : 2 ≤ length (replicate t v) = omega (arith, outside-within m t v g w .t-low, length-replicate t v) in
-    let vs : List ℕ = replicate t v in
-    elim (le-or-lt (getD (grant g m 0 vs) 0 0) g) [
-      | inl f ↦ rw (w, le-ltb g (getD (grant g m 0 vs) 0 0) f) (λ q. absurd (omega arith), λ none. absurd (omega (arith, f, none (grant g m 0 vs) (grant-meets g m 0 vs t2 f))))
-      | inr f ↦ rw (w, lt-ltb g (getD (grant g m 0 vs) 0 0) f) (λ q hs y. grant-refused g m 0 hs vs t2 f y, λ none. refl)
+layout-refused s g w =
+    let vs = rangesOf s in
+    let t2 : 2 ≤ length vs = omega (arith, outside-within s g w .t-low, ranges-length s) in
+    elim (le-or-lt (getD (grant g (s .m) (firstOf s) vs) 0 0) g) [
+      | inl f ↦
+          rw (w, le-ltb g (getD (grant g (s .m) (firstOf s) vs) 0 0) f)
+          (λ q. clash (cc), λ none. absurd (omega (arith, f, none (grant g (s .m) (firstOf s) vs) (grant-meets g (s .m) (firstOf s) vs t2 f))))
+      | inr f ↦ rw (w, lt-ltb g (getD (grant g (s .m) (firstOf s) vs) 0 0) f) (λ q hs y. grant-refused g (s .m) (firstOf s) hs vs t2 f y, λ none. refl)
     ]
+
+rises-both : (xs ys : List ℕ) → Rises xs ys → Rises ys xs → xs ≡ ys
+rises-both [] [] p q = refl
+rises-both [] (y ∷ ys) p q = absurd p
+rises-both (x ∷ xs) [] p q = absurd p
+rises-both (x ∷ xs) (y ∷ ys) p q = let e : x ≡ y = omega (arith, p .0, q .0) in rw (e, rises-both xs ys (p .1) (q .1))
+
+-- Demand 3's two halves speak of one list: what is granted at g is what read, write and export go by.
+pub granted-anywhere : (s : Shape) (g : ℕ) → layoutRefusal s g ≡ [] → (layoutRefusal s 256 ≡ []) × (granted s g ≡ countsOf s)
+unfolding countsOf
+granted-anywhere s g ok =
+    let w = outside-within s g (layout-none s g ok .0) in
+    let a = layout-granted s g ok in
+    let inside : outside s 256 ≡ false = within-outside s 256 (record {
+      m-low = w .m-low;
+      m-high = w .m-high;
+      t-low = w .t-low;
+      t-high = w .t-high;
+      v-low = w .v-low;
+      v-high = w .v-high;
+      g-high = omega arith;
+    }) in
+    let b = least-of (granted s g) (a .0) in
+    let fits : layoutRefusal s 256 ≡ [] = open-refusal inside (omega (arith, b .1, a .1, w .g-high)) in
+    (fits, rises-both (granted s g) (granted s 256) (a .2 (granted s 256) (layout-granted s 256 fits .0)) (b .0))
+  where
+    least-of : (hs : List ℕ) → Meets (s .m) (firstOf s) hs (rangesOf s) → Rises (granted s 256) hs × (getD (granted s 256) 0 0 ≤ getD hs 0 0)
+    least-of hs y = unfold granted in
+        grant-least 256 (s .m) (firstOf s) hs (rangesOf s) (omega (arith, outside-within s g (layout-none s g ok .0) .t-low, ranges-length s)) y
+
+    open-refusal : outside s 256 ≡ false → getD (granted s 256) 0 0 ≤ 256 → layoutRefusal s 256 ≡ []
+    open-refusal o f = unfold layoutRefusal in unfold refusal in unfold misfit in rw (o, le-ltb 256 (getD (granted s 256) 0 0) f)
+
+-- Demand 1: a refused write leaves the cells as they were.
+pub refused-write-keeps : (s : Shape) (x : ℕ) (bs : List ℕ) (k : ℕ) (carried : List ℕ) → writeRefusal s x bs ≡ k ∷ carried → writeLeaves s x bs ≡ bs
+unfolding writeLeaves leaves
+refused-write-keeps s x bs k carried q = rw q
+
+-- A refused export leaves the output as it was.
+pub refused-export-keeps : (serial m t v : ℕ) (cells out : List ℕ) (k : ℕ) (carried : List ℕ) → exportRefusal serial m t v cells out ≡ k ∷ carried →
+    exportLeaves serial m t v cells out ≡ out
+unfolding exportLeaves leaves
+refused-export-keeps serial m t v cells out k carried q = rw q

@@ -27,7 +27,8 @@ module _ (b : ℕ) (pos : 0 < b) (f : ℕ → ℕ → List ℕ) (one : ℕ → L
   next zero x l h = absurd (omega (arith, rw (pow-suc b 0, pow-zero b, one-mul b) at h))
   next (suc most) x l h = cc (split (suc most) x l, wider most (x / b) (div-lt-iff-lt-mul pos .1 (rw (pow-suc b (suc most)) at h)))
 
-  few : ((x : ℕ) → length (f 0 x) ≡ 0) → ((x : ℕ) → length (one x) ≡ 1) → ((x : ℕ) (l : List ℕ) → length (join x l) ≡ suc (length l)) → (most x : ℕ) → length (f most x) ≤ most
+  few : ((x : ℕ) → length (f 0 x) ≡ 0) → ((x : ℕ) → length (one x) ≡ 1) → ((x : ℕ) (l : List ℕ) → length (join x l) ≡ suc (length l)) → (most x : ℕ) →
+      length (f most x) ≤ most
   few none single more zero x = omega (arith, none x)
   few none single more (suc most) x = elim (le-or-lt b x) [
     | inl l ↦ omega (arith, ap length (split most x l), more x (f most (x / b)), few none single more most (x / b))
@@ -71,4 +72,5 @@ spelled-longer most x l h = ap length (spelled-next most x l h) ∙ snoc-length 
 
 pub spelled-few : (most x : ℕ) → length (spelled most x) ≤ most
 unfolding spelled
-spelled-few = few 10 (omega arith) spelled (λ x. (48 + x) ∷ []) (λ x l. l ++ ((48 + x % 10) ∷ [])) spelled-last spelled-split (λ x. refl) (λ x. refl) (λ x l. snoc-length l (48 + x % 10))
+spelled-few = few 10 (omega arith) spelled (λ x. (48 + x) ∷ []) (λ x l. l ++ ((48 + x % 10) ∷ [])) spelled-last spelled-split (λ x. refl) (λ x. refl)
+    (λ x l. snoc-length l (48 + x % 10))

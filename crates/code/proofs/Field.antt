@@ -10,10 +10,11 @@ use lib.Dec.{leb, ltb, eqb}
 use borrow.Author.Tests.{le-leb, lt-leb, lt-ltb, le-ltb, ltb-true, eq-eqb, ne-eqb}
 use Rattle.code.specs.Deal.{written, deal, plainly}
 use Rattle.code.specs.Layout.{room}
-use Rattle.code.specs.Field.{zeros, unerased, past, base, start, carriers, told, pattern, Reading, unread, reads, read, erase, cleared, lay, after, refused, wrote, writeAt, writeOn, write}
+use Rattle.code.specs.Field.{zeros, unerased, past, base, start, carriers, told, pattern, Reading, blank, reads, miscounted, beyond, judged, read, erase, cleared, lay, after, refused, wrote, writeAt, writeOn, write}
 use Rattle.code.specs.Lists.{Upto}
-use Rattle.code.proofs.Tests.{le-or-lt, and-false}
-use Rattle.code.proofs.Deal.{deal-is, plainly-is, plain-written}
+use Rattle.code.proofs.Tests.{le-or-lt, clash}
+use Rattle.code.proofs.Deal.{deal-is, plainly-is, plain-written, blank-number}
+use Rattle.code.proofs.Places.{told-before}
 use Rattle.code.proofs.Conditions.{Holds, Layout, holds-falls, holds-room, head-most}
 use Rattle.code.proofs.Groups.{Grows, zeros-written, unerased-zeros, upto-grows, erase-wiped, erase-zeros, erase-length, lay-is, lay-blank, lay-grows, erase-lay-grows}
 
@@ -30,12 +31,20 @@ pub record Pictured (e b first h h′ x : ℕ) (p : List ℕ) : Type 0 where
   pub small : Upto b p
   pub back : told e b first h′ p ≡ x
 
-pub pattern-is : (e b first h h′ x : ℕ) → 0 < b → e - 1 ≤ b → 0 < e → first ≤ 1 → h′ < h → x < room e b first h h′ → Pictured e b first h h′ x (pattern e b first h h′ x)
+pub pattern-is : (e b first h h′ x : ℕ) → 0 < b → e - 1 ≤ b → 0 < e → first ≤ 1 → h′ < h → x < room e b first h h′ →
+    Pictured e b first h h′ x (pattern e b first h h′ x)
 unfolding room told pattern
 pattern-is e b first h zero x pos eb ep f l hx =
     let p = plainly-is e h (x + 1) ep (omega arith) in
     let w = plain-written e (plainly e h (x + 1)) (omega (arith, p .back)) in
-    record { long = p .long; low = omega arith; keeps = omega arith; small = upto-grows (e - 1) b eb (plainly e h (x + 1)) (p .small); back = omega (arith, p .back) }
+    record {
+      long = p .long;
+      low = omega arith;
+      keeps = omega arith;
+      small = upto-grows (e - 1) b eb (plainly e h (x + 1)) (p .small);
+      back =
+          omega (arith, p .back);
+    }
 pattern-is e b first h (suc h′) x pos eb ep f l hx =
     let d = deal-is b first h (h - suc h′) x pos (omega arith) hx in
     record { long = d .long; low = d .low; keeps = omega (arith, d .high, d .long, zeros-written (deal b first h x)); small = d .small; back = d .back }
@@ -84,55 +93,90 @@ abbrev pub Ready : List ℕ → ℕ → List ℕ → Type 0
 Ready hs zero gs = written gs ≡ 0
 Ready hs (suc n) gs = getD hs (suc n) 0 ≤ zeros gs
 
-both : (a b : Bool) (j : ℕ) (ks : List ℕ) (i : ℕ) (gs : List ℕ) → cond (a && b) (wrote j ks) refused ≡ wrote i gs → (a ≡ true) × (b ≡ true) × (i ≡ j) × (gs ≡ ks)
+both : (a b : Bool) (j : ℕ) (ks : List ℕ) (i : ℕ) (gs : List ℕ) → cond (a && b) (wrote j ks) refused ≡ wrote i gs →
+    (a ≡ true) × (b ≡ true) × (i ≡ j) × (gs ≡ ks)
 both true true j ks i gs h = (refl, refl, cc, cc)
 both true false j ks i gs h = let z : _≡_ {A = ℕ} 0 1 = cc in absurd (omega arith)
 both false b j ks i gs h = let z : _≡_ {A = ℕ} 0 1 = cc in absurd (omega arith)
 
-reads-which : (t : Bool) (j x i y : ℕ) → cond t (reads j x) unread ≡ reads i y → i ≡ j
-reads-which true j x i y h = cc
-reads-which false j x i y h = cc
+-- a reading as generation and number; "All-zero cells read as generation 1, number 0"
+abbrev pub Tells : Reading → ℕ → ℕ → Type 0
+Tells blank i x = (i ≡ 1) × (x ≡ 0)
+Tells (reads j y) i x = (i ≡ j) × (x ≡ y)
+Tells (miscounted j u) i x = ⊥
+Tells (beyond j) i x = ⊥
+
+-- a test and a reading of generation j, which is the one that is read
+judged-which : (t u : Bool) (j x k i y : ℕ) → cond t (cond u (reads j x) (beyond j)) (miscounted j k) ≡ reads i y → i ≡ j
+judged-which true true j x k i y h = cc
+judged-which true false j x k i y h = cc
+judged-which false u j x k i y h = cc
+
+judged-some : (t u : Bool) (j x k : ℕ) → cond t (cond u (reads j x) (beyond j)) (miscounted j k) ≡ blank → ⊥
+judged-some true true j x k h = clash (cc)
+judged-some true false j x k h = clash (cc)
+judged-some false u j x k h = clash (cc)
 
 module _ (e first : ℕ) (hs vs : List ℕ) where
-  pub read-is : (gs p : List ℕ) (n x : ℕ) → past hs (zeros gs) ≡ n → carriers e n gs ≡ p → start first n ≤ written p → length p ≡ getD hs n 0 →
-      told e (base e n) (start first n) (getD hs (suc n) 0) p ≡ x → x < getD vs n 0 → read e first hs vs gs ≡ reads (suc n) x
+  -- blank groups read as such, others as they are judged where their zero groups point
+  pub read-blank : (gs : List ℕ) → written gs ≡ 0 → read e first hs vs gs ≡ blank
   unfolding read
-  read-is gs p n x a c w l t h = rw (a, c, t, le-leb (start first n) (written p) w, eq-eqb (length p) (getD hs n 0) l, lt-ltb x (getD vs n 0) h)
+  read-blank gs z = rw (eq-eqb (written gs) 0 z)
+
+  pub read-judged : (gs : List ℕ) (n : ℕ) → 0 < written gs → past hs (zeros gs) ≡ n → read e first hs vs gs ≡ judged e first hs vs gs n
+  unfolding read
+  read-judged gs n w a = rw (ne-eqb (written gs) 0 (λ q. omega arith), a)
+
+  pub judged-reads : (gs p : List ℕ) (n x : ℕ) → carriers e n gs ≡ p → length p ≡ getD hs n 0 → told e (base e n) (start first n) (getD hs (suc n) 0) p ≡ x →
+      x < getD vs n 0 → judged e first hs vs gs n ≡ reads (suc n) x
+  unfolding judged
+  judged-reads gs p n x c l t h = rw (c, t, eq-eqb (length p) (getD hs n 0) l, lt-ltb x (getD vs n 0) h)
 
   -- where a reading fails: another count of places, or a number beyond the range
-  pub read-miscounted : (gs : List ℕ) (n : ℕ) → past hs (zeros gs) ≡ n → (length (carriers e n gs) ≡ getD hs n 0 → ⊥) → read e first hs vs gs ≡ unread
-  unfolding read
-  read-miscounted gs n a d = rw (a, ne-eqb (length (carriers e n gs)) (getD hs n 0) d, and-false (leb (start first n) (written (carriers e n gs))))
+  pub judged-miscounted : (gs p : List ℕ) (n : ℕ) → carriers e n gs ≡ p → (length p ≡ getD hs n 0 → ⊥) →
+      judged e first hs vs gs n ≡ miscounted (suc n) (length p)
+  unfolding judged
+  judged-miscounted gs p n c d = rw (c, ne-eqb (length p) (getD hs n 0) d)
 
-  pub read-beyond : (gs : List ℕ) (n x : ℕ) → past hs (zeros gs) ≡ n → told e (base e n) (start first n) (getD hs (suc n) 0) (carriers e n gs) ≡ x → getD vs n 0 ≤ x → read e first hs vs gs ≡ unread
-  unfolding read
-  read-beyond gs n x a t l = rw (a, t, le-ltb x (getD vs n 0) l, and-false (eqb (length (carriers e n gs)) (getD hs n 0)), and-false (leb (start first n) (written (carriers e n gs))))
+  pub judged-beyond : (gs p : List ℕ) (n x : ℕ) → carriers e n gs ≡ p → length p ≡ getD hs n 0 → told e (base e n) (start first n) (getD hs (suc n) 0) p ≡ x →
+      getD vs n 0 ≤ x → judged e first hs vs gs n ≡ beyond (suc n)
+  unfolding judged
+  judged-beyond gs p n x c l t h = rw (c, t, eq-eqb (length p) (getD hs n 0) l, le-ltb x (getD vs n 0) h)
 
-  -- and where it does not: from generation 2 on the zero count leaves a written place
-  pub read-told : (gs : List ℕ) (n x : ℕ) → 0 < e → first ≤ written gs → past hs (zeros gs) ≡ n → length (carriers e n gs) ≡ getD hs n 0 →
-      told e (base e n) (start first n) (getD hs (suc n) 0) (carriers e n gs) ≡ x → x < getD vs n 0 → read e first hs vs gs ≡ reads (suc n) x
-  unfolding start carriers
-  read-told gs zero x pos f a l t h = read-is gs gs 0 x a refl f l t h
-  read-told gs (suc n) x pos f a l t h =
-      let z = past-above hs (zeros gs) n a in
-      read-is gs (unerased e gs) (suc n) x a refl (omega (arith, zeros-written (unerased e gs), unerased-zeros e gs pos)) l t h
+  read-is : (gs p : List ℕ) (n x : ℕ) → 0 < written gs → past hs (zeros gs) ≡ n → carriers e n gs ≡ p → length p ≡ getD hs n 0 →
+      told e (base e n) (start first n) (getD hs (suc n) 0) p ≡ x → x < getD vs n 0 → read e first hs vs gs ≡ reads (suc n) x
+  read-is gs p n x w a c l t h = read-judged gs n w a ∙ judged-reads gs p n x c l t h
+
+  pub blank-read : (gs : List ℕ) → read e first hs vs gs ≡ blank → written gs ≡ 0
+  unfolding judged
+  blank-read gs r = elim (le-or-lt (written gs) 0) [
+    | inl z ↦ omega arith
+    | inr w ↦
+        let n = past hs (zeros gs) in
+        let xs = carriers e n gs in
+        let x = told e (base e n) (start first n) (getD hs (suc n) 0) xs in
+        absurd (judged-some (eqb (length xs) (getD hs n 0)) (ltb x (getD vs n 0)) (suc n) x (length xs) (sym (read-judged gs n w refl) ∙ r))
+  ]
 
   pub read-past : (gs : List ℕ) (i y : ℕ) → read e first hs vs gs ≡ reads i y → i ≡ suc (past hs (zeros gs))
-  unfolding read
-  read-past gs i y r =
-      let n = past hs (zeros gs) in
-      let xs = carriers e n gs in
-      let x = told e (base e n) (start first n) (getD hs (suc n) 0) xs in
-      reads-which (leb (start first n) (written xs) && (eqb (length xs) (getD hs n 0) && ltb x (getD vs n 0))) (suc n) x i y r
+  unfolding judged
+  read-past gs i y r = elim (le-or-lt (written gs) 0) [
+    | inl z ↦ clash (cc (read-blank gs (omega arith)))
+    | inr w ↦
+        let n = past hs (zeros gs) in
+        let xs = carriers e n gs in
+        let x = told e (base e n) (start first n) (getD hs (suc n) 0) xs in
+        judged-which (eqb (length xs) (getD hs n 0)) (ltb x (getD vs n 0)) (suc n) x (length xs) i y (sym (read-judged gs n w refl) ∙ r)
+  ]
 
   -- Where a write goes.
-  pub write-blank : (x : ℕ) (gs : List ℕ) → written gs ≡ 0 → write e first hs vs x gs ≡ writeAt e first hs vs x gs 0
+  pub write-read : (x : ℕ) (gs : List ℕ) (r : Reading) → read e first hs vs gs ≡ r → write e first hs vs x gs ≡ writeOn e first hs vs x gs r
   unfolding write
-  write-blank x gs z = rw (eq-eqb (written gs) 0 z)
+  write-read x gs r q = rw q
 
-  pub write-read : (x : ℕ) (gs : List ℕ) (r : Reading) → 0 < written gs → read e first hs vs gs ≡ r → write e first hs vs x gs ≡ writeOn e first hs vs x gs r
-  unfolding write
-  write-read x gs r z q = rw (ne-eqb (written gs) 0 (λ q. omega arith), q)
+  pub write-blank : (x : ℕ) (gs : List ℕ) → written gs ≡ 0 → write e first hs vs x gs ≡ writeAt e first hs vs x gs 0
+  unfolding writeOn
+  write-blank x gs z = write-read x gs blank (read-blank gs z)
 
   pub write-taken : (x : ℕ) (gs : List ℕ) (n : ℕ) → n < length hs → x < getD vs n 0 → writeAt e first hs vs x gs n ≡ wrote (suc n) (after e first hs n x gs)
   unfolding writeAt
@@ -149,7 +193,7 @@ module _ (e first : ℕ) (hs vs : List ℕ) where
   pub record After (n x : ℕ) (gs gs′ : List ℕ) : Type 0 where
     pub long : length gs′ ≡ length gs
     pub small : Upto e gs′
-    pub back : read e first hs vs gs′ ≡ reads (suc n) x
+    pub back : 0 < written gs′ → read e first hs vs gs′ ≡ reads (suc n) x
     pub tells : told e (base e n) (start first n) (getD hs (suc n) 0) (carriers e n gs′) ≡ x
     pub ready : getD hs (suc n) 0 ≤ zeros gs′
     pub marked : start first n ≤ written gs′
@@ -157,7 +201,7 @@ module _ (e first : ℕ) (hs vs : List ℕ) where
 
   -- what an accepted write of x at generation i leaves
   pub record Wrote (x : ℕ) (gs : List ℕ) (i : ℕ) (gs′ : List ℕ) : Type 0 where
-    pub reading : read e first hs vs gs′ ≡ reads i x
+    pub reading : Tells (read e first hs vs gs′) i x
     pub long : length gs′ ≡ length gs
     pub small : Upto e gs′
     pub grows : Grows e gs gs′
@@ -167,7 +211,8 @@ module _ (e first : ℕ) (hs vs : List ℕ) where
         Pictured e (base e n) (start first n) (getD hs n 0) (getD hs (suc n) 0) x (pattern e (base e n) (start first n) (getD hs n 0) (getD hs (suc n) 0) x)
     pictured n x nl hx =
         let q = base-bounds e first n (y .wide) (y .form) in
-        pattern-is e (base e n) (start first n) (getD hs n 0) (getD hs (suc n) 0) x (q .0) (q .1) (omega (arith, y .wide)) (q .2) (holds-falls e e first hs vs n (y .holds) nl) (omega (arith, holds-room e first hs vs n (y .holds) nl))
+        pattern-is e (base e n) (start first n) (getD hs n 0) (getD hs (suc n) 0) x (q .0) (q .1) (omega (arith, y .wide)) (q .2)
+        (holds-falls e e first hs vs n (y .holds) nl) (omega (arith, holds-room e first hs vs n (y .holds) nl))
 
     pub after-is : (n x : ℕ) (gs : List ℕ) → n < length hs → x < getD vs n 0 → length gs ≡ getD hs 0 0 → Ready hs n gs → After n x gs (after e first hs n x gs)
     unfolding after cleared base start carriers
@@ -178,7 +223,7 @@ module _ (e first : ℕ) (hs vs : List ℕ) where
         rw same (record {
           long = q .long ∙ sym l;
           small = q .small;
-          back = read-is p p 0 x (past-is e e first hs vs 0 (zeros p) (y .holds) (q .keeps) (inl refl)) refl (q .low) (q .long) (q .back) hx;
+          back = λ w. read-is p p 0 x w (past-is e e first hs vs 0 (zeros p) (y .holds) (q .keeps) (inl refl)) refl (q .long) (q .back) hx;
           tells = q .back;
           ready = q .keeps;
           marked = q .low;
@@ -190,34 +235,64 @@ module _ (e first : ℕ) (hs vs : List ℕ) where
         let q = pictured (suc n) x nl hx in
         let k = zeros gs - h in
         let pos : 0 < e = omega (arith, y .wide) in
+        let gs′ = lay (erase e k gs) p in
         let a = lay-is e (erase e k gs) p pos (erase-wiped e k gs) (omega (arith, q .long, erase-zeros e k gs pos)) (q .small) in
         let z : zeros p < h = omega (arith, zeros-written p, q .long, q .low) in
         record {
           long = a .long ∙ erase-length e k gs;
           small = a .small;
-          back = read-is (lay (erase e k gs) p) p (suc n) x (past-is e e first hs vs (suc n) (zeros (lay (erase e k gs) p)) (y .holds) (rw (a .left) (q .keeps)) (inr (rw (a .left) z))) (a .carried) (q .low) (q .long) (q .back) hx;
+          back = λ w. read-is gs′ p (suc n) x w (past-is e e first hs vs (suc n) (zeros gs′) (y .holds) (rw (a .left) (q .keeps)) (inr (rw (a .left) z)))
+              (a .carried) (q .long) (q .back) hx;
           tells = rw (a .carried) (q .back);
           ready = rw (a .left) (q .keeps);
-          marked = omega (arith, z, a .left, a .long, erase-length e k gs, zeros-written (lay (erase e k gs) p), l, head-most e e first hs vs (suc n) (y .holds));
+          marked = omega (
+            arith,
+            z,
+            a .left,
+            a .long,
+            erase-length e k gs,
+            zeros-written (lay (erase e k gs) p),
+            l,
+            head-most e e first hs vs (suc n)
+                (y .holds),
+          );
           grows = erase-lay-grows e k gs p pos;
         }
+
+    -- cells that a write leaves blank were written at generation 1 with number 0
+    after-blank : (n x : ℕ) (gs gs′ : List ℕ) → After n x gs gs′ → written gs′ ≡ 0 → (n ≡ 0) × (x ≡ 0)
+    unfolding start base carriers
+    after-blank zero x gs gs′ a z = (
+      refl,
+      sym (a .tells) ∙ told-before e e first (getD hs 1 0) gs′ (omega (arith, holds-falls e e first hs vs 1 (y .holds) (y .two)))
+          ∙ blank-number e first gs′ z,
+    )
+    after-blank (suc n) x gs gs′ a z = absurd (omega (arith, a .marked))
+
+    pub after-tells : (n x : ℕ) (gs gs′ : List ℕ) → After n x gs gs′ → Tells (read e first hs vs gs′) (suc n) x
+    after-tells n x gs gs′ a = elim (le-or-lt (written gs′) 0) [
+      | inl z ↦ let q = after-blank n x gs gs′ a (omega arith) in rw (read-blank gs′ (omega arith)) (ap suc (q .0), q .1)
+      | inr w ↦ rw (a .back w) (refl, refl)
+    ]
 
     -- An accepted write reads back as its generation and number.
     pub write-is : (x : ℕ) (gs : List ℕ) (i : ℕ) (gs′ : List ℕ) → length gs ≡ getD hs 0 0 → write e first hs vs x gs ≡ wrote i gs′ → Wrote x gs i gs′
     unfolding writeOn
-    write-is x gs i gs′ l w = elim (le-or-lt (written gs) 0) [
-      | inl z ↦ at 0 (omega arith) (sym (write-blank x gs (omega arith)) ∙ w)
-      | inr z ↦ nonblank z (read e first hs vs gs) refl
-    ]
+    write-is x gs i gs′ l w = by (read e first hs vs gs) refl
       where
         at : (n : ℕ) → Ready hs n gs → writeAt e first hs vs x gs n ≡ wrote i gs′ → Wrote x gs i gs′
         at n r h =
             let q = write-at x gs n i gs′ h in
             let a = after-is n x gs (q .0) (q .1) l r in
-            rw (q .2, q .3) (record { reading = a .back; long = a .long; small = a .small; grows = a .grows })
+            rw (q .2, q .3) (record { reading = after-tells n x gs (after e first hs n x gs) a; long = a .long; small = a .small; grows = a .grows })
 
-        nonblank : 0 < written gs → (r : Reading) → read e first hs vs gs ≡ r → Wrote x gs i gs′
-        nonblank z unread h = let c : _≡_ {A = ℕ} 0 1 = cc (write-read x gs unread z h) in absurd (omega arith)
-        nonblank z (reads j y) h =
+        none : write e first hs vs x gs ≡ refused → Wrote x gs i gs′
+        none h = clash (cc)
+
+        by : (r : Reading) → read e first hs vs gs ≡ r → Wrote x gs i gs′
+        by blank h = at 0 (blank-read gs h) (sym (write-read x gs blank h) ∙ w)
+        by (miscounted j u) h = none (write-read x gs (miscounted j u) h)
+        by (beyond j) h = none (write-read x gs (beyond j) h)
+        by (reads j y) h =
             let q = read-past gs j y h in
-            at (suc (past hs (zeros gs))) (past-next hs (zeros gs)) (rw q at (sym (write-read x gs (reads j y) z h) ∙ w))
+            at (suc (past hs (zeros gs))) (past-next hs (zeros gs)) (rw q at (sym (write-read x gs (reads j y) h) ∙ w))

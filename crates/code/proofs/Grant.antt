@@ -53,8 +53,12 @@ unfolding Holds counts
 counts-hold fuel e b first [] h = tt
 counts-hold fuel e b first (v ∷ vs) h =
     let c = getD (counts fuel e (e - 1) 1 vs) 0 0 in
-    let low = least-low (λ (k : ℕ). leb v (room e b first k c)) (suc c) fuel in
-    (low, leb-true v (room e b first (least (λ (k : ℕ). leb v (room e b first k c)) (suc c) fuel) c) (least-passes (λ (k : ℕ). leb v (room e b first k c)) (suc c) fuel (omega arith)), counts-hold fuel e (e - 1) 1 vs (omega arith))
+    let low = least-low (λ (k : ℕ). leb v (room e b first k c)) (suc c) fuel in (
+      low,
+      leb-true v (room e b first (least (λ (k : ℕ). leb v (room e b first k c)) (suc c) fuel) c)
+          (least-passes (λ (k : ℕ). leb v (room e b first k c)) (suc c) fuel (omega arith)),
+      counts-hold fuel e (e - 1) 1 vs (omega arith),
+    )
 
 counts-length : (fuel e b first : ℕ) (vs : List ℕ) → length (counts fuel e b first vs) ≡ length vs
 unfolding counts
@@ -62,7 +66,8 @@ counts-length fuel e b first [] = refl
 counts-length fuel e b first (v ∷ vs) = ap suc (counts-length fuel e (e - 1) 1 vs)
 
 -- The granted list is count for count at most every list that meets the conditions; so where it does not fit, none does.
-pub grant-least : (g m first : ℕ) (hs vs : List ℕ) → 2 ≤ length vs → Meets m first hs vs → Rises (grant g m first vs) hs × (getD (grant g m first vs) 0 0 ≤ getD hs 0 0)
+pub grant-least : (g m first : ℕ) (hs vs : List ℕ) → 2 ≤ length vs → Meets m first hs vs →
+    Rises (grant g m first vs) hs × (getD (grant g m first vs) 0 0 ≤ getD hs 0 0)
 unfolding grant
 grant-least g m first hs vs t2 y =
     let e = 2 ^ m - 1 in

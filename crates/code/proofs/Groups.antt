@@ -2,10 +2,10 @@
 use Prim.Native.Nat.{ℕ, zero, suc, _+_, _-_, _≤_, _<_}
 use mathlib.Core.Path.{_≡_, refl, ap, _∙_}
 use mathlib.Core.Logic.{_⊎_, inl, inr}
-use mathlib.Core.List.{List, [], _∷_}
+use mathlib.Core.List.{List, [], _∷_, _++_}
 use native.Mathlib.Omega.{arith}
 use native.Mathlib.Decide.{ℕ-discrete}
-use lib.ListN.{length}
+use lib.ListN.{length, replicate}
 use borrow.Author.Tests.{eq-eqb, ne-eqb}
 use Rattle.code.specs.Deal.{written}
 use Rattle.code.specs.Field.{zeros, unerased, erase, lay}
@@ -88,7 +88,13 @@ lay-is e (suc x ∷ gs) p pos w l u =
 lay-is e (zero ∷ gs) [] pos w l u = absurd (omega arith)
 lay-is e (zero ∷ gs) (y ∷ p) pos w l u =
     let ih = lay-is e gs p pos (w .1) (omega arith) (u .1) in
-    record { carried = rw (ne-eqb y e (λ q. omega (arith, u .0)), ih .carried); left = zeros-tails y (lay gs p) p (ih .left); long = ap suc (ih .long); small = (omega (arith, u .0), ih .small) }
+    record {
+      carried = rw (ne-eqb y e (λ q. omega (arith, u .0)), ih .carried);
+      left = zeros-tails y (lay gs p) p (ih .left);
+      long =
+          ap suc (ih .long);
+      small = (omega (arith, u .0), ih .small);
+    }
 
 -- into blank groups
 pub lay-blank : (gs p : List ℕ) → written gs ≡ 0 → length p ≡ length gs → lay gs p ≡ p
@@ -136,3 +142,40 @@ unfolding erase written
 erase-blank e [] z = refl
 erase-blank e (zero ∷ gs) z = ap (λ (t : List ℕ). 0 ∷ t) (erase-blank e gs z)
 erase-blank e (suc x ∷ gs) z = absurd (omega arith)
+
+-- groups of all ones behind others: none is zero, all are erased, and erasing and laying pass them by; f is 2^m − 2
+pub zeros-padded : (f k : ℕ) (gs : List ℕ) → zeros (gs ++ replicate k (suc f)) ≡ zeros gs
+unfolding zeros
+zeros-padded f zero [] = refl
+zeros-padded f (suc k) [] = zeros-padded f k []
+zeros-padded f k (zero ∷ gs) = ap suc (zeros-padded f k gs)
+zeros-padded f k (suc x ∷ gs) = zeros-padded f k gs
+
+pub unerased-padded : (e k : ℕ) (gs : List ℕ) → unerased e (gs ++ replicate k e) ≡ unerased e gs
+unfolding unerased
+unerased-padded e zero [] = refl
+unerased-padded e (suc k) [] = rw (eq-eqb e e refl) (unerased-padded e k [])
+unerased-padded e k (x ∷ gs) = rw (unerased-padded e k gs)
+
+pub erase-padded : (f spare k : ℕ) (gs : List ℕ) → erase (suc f) spare (gs ++ replicate k (suc f)) ≡ erase (suc f) spare gs ++ replicate k (suc f)
+unfolding erase
+erase-padded f spare zero [] = refl
+erase-padded f spare (suc k) [] = ap (_∷_ (suc f)) (erase-padded f spare k [])
+erase-padded f spare k (suc x ∷ gs) = ap (_∷_ (suc f)) (erase-padded f spare k gs)
+erase-padded f zero k (zero ∷ gs) = ap (_∷_ 0) (erase-padded f zero k gs)
+erase-padded f (suc spare) k (zero ∷ gs) = ap (_∷_ (suc f)) (erase-padded f spare k gs)
+
+pub lay-padded : (f k : ℕ) (gs ps : List ℕ) → lay (gs ++ replicate k (suc f)) ps ≡ lay gs ps ++ replicate k (suc f)
+unfolding lay
+lay-padded f zero [] ps = refl
+lay-padded f (suc k) [] ps = ap (_∷_ (suc f)) (lay-padded f k [] ps)
+lay-padded f k (suc x ∷ gs) ps = ap (_∷_ (suc x)) (lay-padded f k gs ps)
+lay-padded f k (zero ∷ gs) [] = ap (_∷_ 0) (lay-padded f k gs [])
+lay-padded f k (zero ∷ gs) (p ∷ ps) = ap (_∷_ p) (lay-padded f k gs ps)
+
+pub lay-length : (gs ps : List ℕ) → length (lay gs ps) ≡ length gs
+unfolding lay
+lay-length [] ps = refl
+lay-length (suc x ∷ gs) ps = ap suc (lay-length gs ps)
+lay-length (zero ∷ gs) [] = ap suc (lay-length gs [])
+lay-length (zero ∷ gs) (p ∷ ps) = ap suc (lay-length gs ps)

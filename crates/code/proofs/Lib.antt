@@ -2,8 +2,10 @@ pub mod Agreed
 pub mod Tests
 pub mod Count
 pub mod Deal
+pub mod Chosen
 pub mod Conditions
 pub mod Grant
+pub mod CountSteps
 pub mod Groups
 pub mod Field
 pub mod Run
@@ -13,14 +15,13 @@ pub mod Numbers
 pub mod Cells
 pub mod Placed
 pub mod Bytes
-pub mod Calls
+pub mod LayoutCall
+pub mod ReadCall
+pub mod WriteCall
 pub mod Demand
 pub mod Rows
 pub mod Published
 pub mod Sample
-pub mod Replies
-pub mod Writes
-pub mod LayoutReply
 pub mod Places
 pub mod Sums
 pub mod Parts
@@ -28,6 +29,6 @@ pub mod Digits
 pub mod Numerals
 pub mod Records
 pub mod Walk
-pub mod Exporting
+pub mod ExportCall
 pub mod Steps
 pub mod Closing

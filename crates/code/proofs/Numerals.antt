@@ -25,13 +25,21 @@ pub read-more : (most b : ℕ) (bytes : List ℕ) → 128 ≤ b → readSevens (
 unfolding readSevens
 read-more most b bytes h = rw (le-ltb b 128 h)
 
-written-reads : (most x : ℕ) (rest : List ℕ) → x < 128 ^ suc most → readSevens (suc most) (sevens (suc most) x ++ rest) ≡ numeral x (length (sevens (suc most) x))
+written-reads : (most x : ℕ) (rest : List ℕ) → x < 128 ^ suc most →
+    readSevens (suc most) (sevens (suc most) x ++ rest) ≡ numeral x (length (sevens (suc most) x))
 written-reads zero x rest b = rw (sevens-last 0 x (omega arith)) (read-last 0 x rest (omega arith))
 written-reads (suc most) x rest b = elim (le-or-lt 128 x) [
   | inl h ↦
       let q : x / 128 < 128 ^ suc most = omega (arith, pow-succ' 128 (suc most)) in
       let e : 128 + x % 128 - 128 + 128 * (x / 128) ≡ x = omega arith in
-      rw (sevens-split (suc most) x h, read-more (suc most) (128 + x % 128) (sevens (suc most) (x / 128) ++ rest) (omega arith), written-reads most (x / 128) rest q, longer-is (128 + x % 128) (x / 128) (length (sevens (suc most) (x / 128))) (omega arith), e)
+      rw (
+        sevens-split (suc most) x h,
+        read-more (suc most) (128 + x % 128) (sevens (suc most) (x / 128) ++ rest) (omega arith),
+        written-reads most
+            (x / 128) rest q,
+        longer-is (128 + x % 128) (x / 128) (length (sevens (suc most) (x / 128))) (omega arith),
+        e,
+      )
   | inr h ↦ rw (sevens-last (suc most) x h) (read-last (suc most) x rest h)
 ]
 

@@ -63,7 +63,8 @@ laid-blank b zero r d = refl
 laid-blank b (suc s) r d = ap (λ (l : List ℕ). 0 ∷ l) (laid-blank b s r d)
 
 -- the pattern of a number whose k is known
-pub deal-laid : (b first s n k rest : ℕ) → 0 < b → first ≤ k → n ≡ fewer b s first k + rest → rest < choose s k * b ^ k → deal b first s n ≡ laid b s k (rest / b ^ k) (rest % b ^ k)
+pub deal-laid : (b first s n k rest : ℕ) → 0 < b → first ≤ k → n ≡ fewer b s first k + rest → rest < choose s k * b ^ k →
+    deal b first s n ≡ laid b s k (rest / b ^ k) (rest % b ^ k)
 deal-laid b first s n k rest pos low e h =
     let z = one-le-pow k b pos in
     let L = laid-is b pos s k (rest / b ^ k) (rest % b ^ k) (div-lt-iff-lt-mul z .1 h) (mod-lt rest z) in

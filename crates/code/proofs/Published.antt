@@ -5,16 +5,16 @@ use mathlib.Core.List.{List, [], _∷_}
 use native.Mathlib.Omega.{arith}
 use lib.ListN.{replicate}
 use Rattle.code.specs.Count.{least}
-use Rattle.code.specs.Calls.{granted}
+use Rattle.code.specs.Shape.{shaped, firstOf, rangesOf, granted}
 use Rattle.code.proofs.Rows.{along, row, weigh, roomByRow, countsByRow, grant-row}
 
-by-rows : (m t : ℕ) (hs : List ℕ) → countsByRow 256 (2 ^ m - 1) (2 ^ m - 1) 0 (replicate t (2 ^ 56)) ≡ hs → granted m t (2 ^ 56) 256 ≡ hs
-unfolding granted
+by-rows : (m t : ℕ) (hs : List ℕ) → countsByRow 256 (2 ^ m - 1) (2 ^ m - 1) 0 (replicate t (2 ^ 56)) ≡ hs → granted (shaped m t (2 ^ 56)) 256 ≡ hs
+unfolding granted firstOf rangesOf
 by-rows m t hs q = grant-row 256 m 0 (replicate t (2 ^ 56)) (omega arith) ∙ q
 
 pub published :
-    (granted 2 10 (2 ^ 56) 256 ≡ 139 ∷ 130 ∷ 120 ∷ 110 ∷ 99 ∷ 88 ∷ 76 ∷ 64 ∷ 51 ∷ 36 ∷ [])
-    × (granted 2 2 (2 ^ 56) 256 ≡ 49 ∷ 36 ∷ [])
-    × (granted 3 2 (2 ^ 56) 256 ≡ 31 ∷ 20 ∷ [])
+    (granted (shaped 2 10 (2 ^ 56)) 256 ≡ 139 ∷ 130 ∷ 120 ∷ 110 ∷ 99 ∷ 88 ∷ 76 ∷ 64 ∷ 51 ∷ 36 ∷ [])
+    × (granted (shaped 2 2 (2 ^ 56)) 256 ≡ 49 ∷ 36 ∷ [])
+    × (granted (shaped 3 2 (2 ^ 56)) 256 ≡ 31 ∷ 20 ∷ [])
 unfolding along row weigh roomByRow countsByRow least
 published = (by-rows 2 10 _ refl, by-rows 2 2 _ refl, by-rows 3 2 _ refl)

@@ -110,7 +110,8 @@ counts-row fuel e b first [] f = refl
 counts-row fuel e b first (v ∷ vs) f =
     rw (counts-row fuel e (e - 1) 1 vs (omega arith))
     (ap (λ (h : ℕ). h ∷ countsByRow fuel e (e - 1) 1 vs)
-    (least-same _ _ (suc (getD (countsByRow fuel e (e - 1) 1 vs) 0 0)) fuel (λ h. ap (leb v) (sym (room-row e b first h (getD (countsByRow fuel e (e - 1) 1 vs) 0 0) f)))))
+    (least-same _ _ (suc (getD (countsByRow fuel e (e - 1) 1 vs) 0 0)) fuel
+    (λ h. ap (leb v) (sym (room-row e b first h (getD (countsByRow fuel e (e - 1) 1 vs) 0 0) f)))))
 
 pub grant-row : (g m first : ℕ) (vs : List ℕ) → first ≤ 1 → grant g m first vs ≡ countsByRow g (2 ^ m - 1) (2 ^ m - 1) first vs
 unfolding grant

@@ -18,19 +18,10 @@ use Rattle.code.proofs.Count.{fewer-grows}
 use Rattle.code.proofs.Conditions.{Layout, holds-length, holds-falls, head-most}
 use Rattle.code.proofs.Groups.{zeros-written}
 use Rattle.code.proofs.Places.{told-before}
-use Rattle.code.proofs.Field.{read-is, past-is, Ready, After, after-is, write-blank, write-read}
+use Rattle.code.proofs.Deal.{blank-number}
+use Rattle.code.proofs.Field.{Ready, After, after-is, write-blank, write-read}
 
--- The pattern that writes nothing has number 0, and where it is allowed no other has.
-blank-parts : (b : ℕ) (p : List ℕ) → written p ≡ 0 → (rank p ≡ 0) × (digits b p ≡ 0)
-unfolding written rank digits
-blank-parts b [] h = (refl, refl)
-blank-parts b (zero ∷ p) h = blank-parts b p h
-blank-parts b (suc x ∷ p) h = absurd (omega arith)
-
-pub blank-number : (b first : ℕ) (p : List ℕ) → written p ≡ 0 → number b first p ≡ 0
-unfolding number fewer
-blank-number b first p h = let q = blank-parts b p h in rw (h, q .0, q .1, pow-zero)
-
+-- Where the pattern that writes nothing is allowed, no other has number 0.
 fewer-one : (b s : ℕ) → fewer b s 0 1 ≡ 1
 unfolding fewer choose
 fewer-one b s = rw pow-zero
@@ -132,8 +123,11 @@ in-range-at first vs c (x ∷ xs) (suc j) r h =
 pub equal-range : (first t v c : ℕ) (xs : List ℕ) → Below v xs → InRange first (replicate t v) c xs
 unfolding InRange
 equal-range first t v c [] u = tt
-equal-range first t v c (x ∷ xs) u =
-    (λ l. omega (arith, u .0, getD-replicate t c v 0 (omega (arith, length-replicate t v))), equal-range first t v (next first (length (replicate t v)) c x) xs (u .1))
+equal-range first t v c (x ∷ xs) u = (
+  λ l. omega (arith, u .0, getD-replicate t c v 0 (omega (arith, length-replicate t v))),
+  equal-range first t v (next first (length (replicate t v)) c x)
+      xs (u .1),
+)
 
 pub blank-written : (h : ℕ) → written (replicate h 0) ≡ 0
 unfolding written
@@ -157,10 +151,10 @@ module _ (e first : ℕ) (hs vs : List ℕ) where
   stands-write : (x c : ℕ) (gs : List ℕ) → Stands c gs → write e first hs vs x gs ≡ writeAt e first hs vs x gs c
   unfolding writeOn
   stands-write x zero gs s = write-blank e first hs vs x gs s
-  stands-write x (suc n) gs s = write-read e first hs vs x gs (reads (suc n) (s .1 .0)) (s .0) (s .1 .1)
+  stands-write x (suc n) gs s = write-read e first hs vs x gs (reads (suc n) (s .1 .0)) (s .1 .1)
 
   stands-up : (c x : ℕ) (gs gs′ : List ℕ) → c < length hs → 0 < written gs′ → After e first hs vs c x gs gs′ → Stands (min (length hs) (suc c)) gs′
-  stands-up c x gs gs′ l w a = rw (min-eq-right l) (w, (x, a .back), a .ready)
+  stands-up c x gs gs′ l w a = rw (min-eq-right l) (w, (x, a .back w), a .ready)
 
   -- the groups hold their field, and c generations are used
   pub record Held (c : ℕ) (gs : List ℕ) : Type 0 where
@@ -176,26 +170,19 @@ module _ (e first : ℕ) (hs vs : List ℕ) where
   unfolding writeAt
   spent x c gs k h = stands-write x c gs (k .stands) ∙ rw (le-ltb c (length hs) h)
 
--- blank cells read as generation 1, number 0, where it may write no place
-pub blank-reads : (e : ℕ) (hs vs gs : List ℕ) → Layout e 0 hs vs → length gs ≡ getD hs 0 0 → written gs ≡ 0 → 0 < getD vs 0 0 → read e 0 hs vs gs ≡ reads 1 0
-unfolding base start carriers
-blank-reads e hs vs gs y l z v =
-    let full : zeros gs ≡ getD hs 0 0 = omega (arith, zeros-written gs) in
-    read-is e 0 hs vs gs gs 0 0
-    (past-is e e 0 hs vs 0 (zeros gs) (y .holds) (omega (arith, head-most e e 0 hs vs 1 (y .holds))) (inl refl)) refl (omega arith) l
-    (told-before e e 0 (getD hs 1 0) gs (omega (arith, holds-falls e e 0 hs vs 1 (y .holds) (y .two))) ∙ blank-number e 0 gs (omega arith)) v
-
 -- generation 1 leaves the cells blank exactly where the number is one of the opening zeros
 first-tells : (e first : ℕ) (hs vs : List ℕ) (x : ℕ) (gs gs′ : List ℕ) → Layout e first hs vs → After e first hs vs 0 x gs gs′ → number e first gs′ ≡ x
 unfolding base start carriers
-first-tells e first hs vs x gs gs′ y a = sym (told-before e e first (getD hs 1 0) gs′ (omega (arith, holds-falls e e first hs vs 1 (y .holds) (y .two)))) ∙ a .tells
+first-tells e first hs vs x gs gs′ y a = sym (told-before e e first (getD hs 1 0) gs′ (omega (arith, holds-falls e e first hs vs 1 (y .holds) (y .two))))
+    ∙ a .tells
 
 start-pos : (first c : ℕ) → 0 < first → 0 < start first c
 unfolding start
 start-pos first zero h = h
 start-pos first (suc c) h = omega arith
 
-after-stands : (e first : ℕ) (hs vs : List ℕ) (c x : ℕ) (gs gs′ : List ℕ) → Layout e first hs vs → c < length hs → After e first hs vs c x gs gs′ → Stands e first hs vs (next first (length hs) c x) gs′
+after-stands : (e first : ℕ) (hs vs : List ℕ) (c x : ℕ) (gs gs′ : List ℕ) → Layout e first hs vs → c < length hs → After e first hs vs c x gs gs′ →
+    Stands e first hs vs (next first (length hs) c x) gs′
 unfolding next start
 after-stands e zero hs vs zero zero gs gs′ y l a = number-blank e gs′ (first-tells e 0 hs vs 0 gs gs′ y a)
 after-stands e zero hs vs zero (suc x) gs gs′ y l a = elim (le-or-lt (written gs′) 0) [
@@ -203,7 +190,8 @@ after-stands e zero hs vs zero (suc x) gs gs′ y l a = elim (le-or-lt (written 
   | inr w ↦ stands-up e 0 hs vs 0 (suc x) gs gs′ l w a
 ]
 after-stands e zero hs vs (suc c) x gs gs′ y l a = stands-up e 0 hs vs (suc c) x gs gs′ l (a .marked) a
-after-stands e (suc first) hs vs c x gs gs′ y l a = stands-up e (suc first) hs vs c x gs gs′ l (omega (arith, a .marked, start-pos (suc first) c (omega arith))) a
+after-stands e (suc first) hs vs c x gs gs′ y l a =
+    stands-up e (suc first) hs vs c x gs gs′ l (omega (arith, a .marked, start-pos (suc first) c (omega arith))) a
 
 module _ (e first : ℕ) (hs vs : List ℕ) (y : Layout e first hs vs) where
   -- a write where a generation is left
@@ -216,7 +204,8 @@ module _ (e first : ℕ) (hs vs : List ℕ) (y : Layout e first hs vs) where
   )
 
   -- the run keeps count
-  step : (c x : ℕ) (gs : List ℕ) → Held e first hs vs c gs → (c < length hs → x < getD vs c 0) → Held e first hs vs (next first (length hs) c x) (kept gs (write e first hs vs x gs))
+  step : (c x : ℕ) (gs : List ℕ) → Held e first hs vs c gs → (c < length hs → x < getD vs c 0) →
+      Held e first hs vs (next first (length hs) c x) (kept gs (write e first hs vs x gs))
   unfolding kept
   step c x gs k r = elim (le-or-lt (length hs) c) [
     | inl g ↦
@@ -224,22 +213,30 @@ module _ (e first : ℕ) (hs vs : List ℕ) (y : Layout e first hs vs) where
         rw (spent e first hs vs x c gs k g, next-up first (length hs) c x (omega (arith, y .two)), full) k
     | inr l ↦
         let q = taken c x gs k l (r l) in
-        rw (q .0) (record { long = q .1 .long ∙ k .long; most = next-most first (length hs) c x; stands = after-stands e first hs vs c x gs (after e first hs c x gs) y l (q .1) })
+        rw (q .0) (record {
+          long = q .1 .long
+              ∙ k .long;
+          most = next-most first (length hs) c x;
+          stands = after-stands e first hs vs c x gs (after e first hs c x gs) y l (q .1);
+        })
   ]
 
   same-length : length vs ≡ length hs
   same-length = holds-length e e first hs vs (y .holds)
 
-  run-held : (c : ℕ) (gs xs : List ℕ) → Held e first hs vs c gs → InRange first vs c xs → Held e first hs vs (tally first (length hs) c xs) (run (tried e first hs vs) gs xs)
+  run-held : (c : ℕ) (gs xs : List ℕ) → Held e first hs vs c gs → InRange first vs c xs →
+      Held e first hs vs (tally first (length hs) c xs) (run (tried e first hs vs) gs xs)
   unfolding run tried tally InRange
   run-held c gs [] k r = k
   run-held c gs (x ∷ xs) k r =
       let r′ : (c < length hs → x < getD vs c 0) × InRange first vs (next first (length hs) c x) xs = rw same-length at r in
       run-held (next first (length hs) c x) (kept gs (write e first hs vs x gs)) xs (step c x gs k (r′ .0)) (r′ .1)
 
-  -- Demand 3. The write at place j of a sequence from blank cells, which is write j + 1, is accepted exactly when j + 1 less the opening zeros is at most the number of generations.
+  -- Demand 3. The write at place j of a sequence from blank cells, which is write j + 1, is accepted exactly when j + 1 less the opening zeros is at most the
+  -- number of generations.
   pub accepts : (xs : List ℕ) (j : ℕ) → InRange first vs 0 xs → j < length xs →
-      accepted (write e first hs vs (getD xs j 0) (run (tried e first hs vs) (replicate (getD hs 0 0) 0) (take j xs))) ≡ leb (suc j - opening first xs) (length hs)
+      accepted (write e first hs vs (getD xs j 0) (run (tried e first hs vs) (replicate (getD hs 0 0) 0) (take j xs))) ≡ leb (suc j - opening first xs)
+      (length hs)
   unfolding accepted
   accepts xs j r l =
       let two = y .two in
@@ -247,7 +244,8 @@ module _ (e first : ℕ) (hs vs : List ℕ) (y : Layout e first hs vs) where
       let gs = run (tried e first hs vs) (replicate (getD hs 0 0) 0) (take j xs) in
       let i : InRange first vs 0 (take j xs) × (c < length hs → getD xs j 0 < getD vs c 0) = rw same-length at (in-range-at first vs 0 xs j r l) in
       let k = run-held 0 (replicate (getD hs 0 0) 0) (take j xs) (blank-held e first hs vs) (i .0) in
-      let n : c ≡ min (length hs) (min j (length xs) - min j (opening first xs)) = rw (tally-is first (length hs) (take j xs) (omega arith), length-take, opening-take) in
+      let n : c ≡ min (length hs) (min j (length xs) - min j (opening first xs)) =
+      rw (tally-is first (length hs) (take j xs) (omega arith), length-take, opening-take) in
       elim (le-or-lt (suc j - opening first xs) (length hs)) [
         | inl g ↦ rw (le-leb (suc j - opening first xs) (length hs) g, taken c (getD xs j 0) gs k (omega arith) (i .1 (omega arith)) .0)
         | inr g ↦ rw (lt-leb (suc j - opening first xs) (length hs) g, spent e first hs vs (getD xs j 0) c gs k (omega arith))

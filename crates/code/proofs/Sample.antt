@@ -1,23 +1,30 @@
--- Document 01's sample dump, its listing computed from the definitions.
+-- Document 01's sample dump, its listing and its rows computed from the definitions.
 use Prim.Native.Nat.{ℕ}
 use mathlib.Core.Path.{_≡_, refl}
 use mathlib.Core.List.{List, [], _∷_}
+use lib.ListN.{replicate}
 use Rattle.code.specs.Count.{choose, fewer, least}
 use Rattle.code.specs.Layout.{room, counts, grant}
 use Rattle.code.specs.Deal.{written, rank, digits, number, plain}
 use Rattle.code.specs.Cells.{place, wit, value, listed, group, groups, sound}
-use Rattle.code.specs.Field.{zeros, unerased, past, base, start, carriers, told, read}
-use Rattle.code.specs.Calls.{readCells, refusal, answer, outside, misfit, granted, fieldRead, unsound, unreadable, generation, holds, left, readRefusal, readReply}
-use Rattle.code.specs.Dump.{longer, readSevens, preceded, readNumbers, recordAt, step, walkFrom, walk, ascii, spelled, recordLine, lastLine, stopLines, lines, listing}
+use Rattle.code.specs.Field.{zeros, unerased, past, base, start, carriers, told, judged, read}
+use Rattle.code.specs.Shape.{firstOf, rangesOf, orderOf, outside, granted, misfit, countsOf, widthOf}
+use Rattle.code.specs.Calls.{readCells, refusal, answer, filled, fieldRead, unsound, unreadable, generation, holds, left, readRefusal, readReply}
+use Rattle.code.specs.Dump.{longer, readSevens, preceded, readNumbers, recordBy, broken, stepRefusal, found, stepOn, step, cellsOf, recordNumbers, outcome, walkFrom, walk, rowsOf, walkLeaves, ascii, spelled, recordLine, lastLine, stopLines, lines, listing}
 
 abbrev sample : List ℕ
 sample =
     0x07 ∷ 0x02 ∷ 0x03 ∷ 0x04 ∷ 0x01 ∷ 0x4F ∷ 0xAC ∷ 0x02 ∷ 0x02 ∷ 0x02 ∷ 0x14 ∷ 0x02 ∷ 0x00 ∷ 0x40 ∷
     0x08 ∷ 0x02 ∷ 0x03 ∷ 0x04 ∷ 0x01 ∷ 0x00 ∷ 0x09 ∷ 0x02 ∷ 0x02 ∷ 0x14 ∷ 0x02 ∷ 0x02 ∷ 0x80 ∷ []
 
--- also `80 00` as a serial, which is not shortest
+-- also `80 00` as a serial, which is not shortest; and the rows of a walk, with a number behind them that stays
 pub sampled :
     (listing sample ≡ ascii "7 3 2 0\n300 1 1 1\n8 1 0 3\n9 refused 4\nrecords 4\n")
     × (listing (0x80 ∷ 0x00 ∷ []) ≡ ascii "stopped 7 at 0\nrecords 0\n")
-unfolding choose fewer least room counts grant written rank digits number plain place wit value listed group groups sound zeros unerased past base start carriers told read readCells refusal answer outside misfit granted fieldRead unsound unreadable generation holds left readRefusal readReply longer readSevens preceded readNumbers recordAt step walkFrom walk ascii spelled recordLine lastLine stopLines lines listing
-sampled = (refl, refl)
+    × (walkLeaves sample 0 (replicate 41 1) ≡
+    7 ∷ 2 ∷ 3 ∷ 4 ∷ 5 ∷ 1 ∷ 0 ∷ 3 ∷ 2 ∷ 0 ∷
+    300 ∷ 2 ∷ 2 ∷ 20 ∷ 12 ∷ 2 ∷ 0 ∷ 1 ∷ 1 ∷ 1 ∷
+    8 ∷ 2 ∷ 3 ∷ 4 ∷ 19 ∷ 1 ∷ 0 ∷ 1 ∷ 0 ∷ 3 ∷
+    9 ∷ 2 ∷ 2 ∷ 20 ∷ 25 ∷ 2 ∷ 4 ∷ 0 ∷ 0 ∷ 0 ∷ 1 ∷ [])
+unfolding choose fewer least room counts grant written rank digits number plain place wit value listed group groups sound zeros unerased past base start carriers told judged read readCells refusal answer filled firstOf rangesOf orderOf outside granted misfit countsOf widthOf fieldRead unsound unreadable generation holds left readRefusal readReply longer readSevens preceded readNumbers recordBy broken stepRefusal found stepOn step cellsOf recordNumbers outcome walkFrom walk rowsOf walkLeaves ascii spelled recordLine lastLine stopLines lines listing
+sampled = (refl, refl, refl)

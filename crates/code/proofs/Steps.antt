@@ -1,87 +1,73 @@
 -- The reply of a step, case by case, and what a reply tells of the step.
-use Prim.Native.Nat.{ℕ, _-_, _≤_, _<_}
+use Prim.Native.Nat.{ℕ, _≤_, _<_}
 use mathlib.Core.Path.{_≡_, refl, ap, sym, _∙_}
 use mathlib.Core.Bool.{Bool, true, false, cond}
-use mathlib.Core.List.{List, [], _∷_}
+use mathlib.Core.List.{List, [], _∷_, _++_}
 use native.Mathlib.Omega.{arith}
-use lib.Dec.{leb, ltb}
-use lib.ListN.{length, getD, take, drop}
-use borrow.Author.Tests.{lt-ltb, le-ltb}
-use Rattle.code.specs.Calls.{readReply}
-use Rattle.code.specs.Dump.{Numbers, cut, numbers, readNumbers, Step, taken, ended, stopped, recordAt, step, outcome, stepReply}
+use lib.Dec.{ltb}
+use lib.ListN.{length}
+use Rattle.code.specs.declared.Record.{Record}
+use Rattle.code.specs.Calls.{refusal}
+use Rattle.code.specs.Dump.{Numbers, cut, numbers, readNumbers, Step, taken, ended, stopped, broken, recordAt, stepRefusal, found, stepOn, step, recordNumbers, outcome, stepValues, stepReply}
 use Rattle.code.proofs.Tests.{clash}
-use Rattle.code.proofs.Walk.{step-ended}
+use Rattle.code.proofs.LayoutCall.{refusal-some}
+use Rattle.code.proofs.Records.{step-oversize, step-inside, step-ended}
+
+-- a record is fixed by its numbers
+pub numbers-same : (r p : Record) (xs ys : List ℕ) → recordNumbers r ++ xs ≡ recordNumbers p ++ ys → (r ≡ p) × (xs ≡ ys)
+unfolding recordNumbers
+numbers-same r p xs ys e =
+    let a : r .serial ≡ p .serial = cc in
+    let b : r .shape .m ≡ p .shape .m = cc in
+    let c : r .shape .t ≡ p .shape .t = cc in
+    let d : r .shape .v ≡ p .shape .v = cc in
+    let f : r .start ≡ p .start = cc in
+    let g : r .count ≡ p .count = cc in
+    (λ i. record { serial = a i; shape = record { m = b i; t = c i; v = d i }; start = f i; count = g i }, cc)
 
 module _ (bytes : List ℕ) (at : ℕ) where
-  pub step-oversize : 65536 < length bytes → step bytes at ≡ stopped 8 []
-  unfolding step
-  step-oversize h = rw (lt-ltb 65536 (length bytes) h)
-
-  pub step-inside : length bytes ≤ 65536 → at < length bytes → step bytes at ≡ recordAt bytes at (readNumbers 5 bytes at)
-  unfolding step
-  step-inside h l = rw (le-ltb 65536 (length bytes) h, lt-ltb at (length bytes) l)
-
-  pub reply-oversize : 65536 < length bytes → 8 ∷ [] ≡ stepReply bytes at
-  unfolding stepReply outcome
-  reply-oversize h = rw (step-oversize h)
-
-  pub reply-ended : length bytes ≤ 65536 → length bytes ≤ at → 0 ∷ [] ≡ stepReply bytes at
-  unfolding stepReply outcome
-  reply-ended h l = rw (step-ended bytes at h l)
-
-  pub reply-inside : length bytes ≤ 65536 → at < length bytes → (s : Step) → s ≡ recordAt bytes at (readNumbers 5 bytes at) → outcome bytes s ≡ stepReply bytes at
-  unfolding stepReply
-  reply-inside h l s e = ap (outcome bytes) (e ∙ sym (step-inside h l))
-
   -- a step stops with a refusal
   abbrev pub Refusing : Step → Type 0
-  Refusing (taken serial m t v start count) = Unit {0}
+  Refusing (taken r) = Unit {0}
   Refusing ended = Unit {0}
   Refusing (stopped k carried) = 0 < k
 
-  record-refusing : (r : Numbers) → Refusing (recordAt bytes at r)
-  unfolding recordAt
-  record-refusing cut = omega arith
-  record-refusing (numbers xs start) = go (leb (getD xs 4 0) (length bytes - start))
-    where
-      go : (b : Bool) → Refusing (cond b (taken (getD xs 0 0) (getD xs 1 0) (getD xs 2 0) (getD xs 3 0) start (getD xs 4 0)) (stopped 7 (at ∷ [])))
-      go true = tt
-      go false = omega arith
-
   pub step-refusing : Refusing (step bytes at)
-  unfolding step
-  step-refusing = go (ltb 65536 (length bytes)) (ltb at (length bytes))
+  unfolding step stepOn found stepRefusal
+  step-refusing = go (stepRefusal bytes at) refl (ltb at (length bytes)) (readNumbers 5 bytes at)
     where
-      go : (a b : Bool) → Refusing (cond a (stopped 8 []) (cond b (recordAt bytes at (readNumbers 5 bytes at)) ended))
-      go true b = omega arith
-      go false true = record-refusing (readNumbers 5 bytes at)
-      go false false = tt
+      go : (r : List ℕ) → stepRefusal bytes at ≡ r → (b : Bool) (ns : Numbers) → Refusing (stepOn r (cond b (found ns) ended))
+      go [] q true cut = tt
+      go [] q true (numbers xs start) = tt
+      go [] q false ns = tt
+      go (k ∷ carried) q b ns = refusal-some _ (omega arith, (omega arith, tt)) k carried q
 
-  pub told-record : (serial m t v start count : ℕ) (reply : List ℕ) → 0 ∷ serial ∷ m ∷ t ∷ v ∷ start ∷ count ∷ reply ≡ stepReply bytes at →
-      (step bytes at ≡ taken serial m t v start count) × (readReply m t v (take count (drop start bytes)) ≡ reply)
-  unfolding stepReply outcome
-  told-record serial m t v start count reply e = go (step bytes at) refl step-refusing e
+  pub told-record : (r : Record) (reply : List ℕ) → 0 ∷ (recordNumbers r ++ reply) ≡ stepReply bytes at → (step bytes at ≡ taken r) × (outcome bytes r ≡ reply)
+  unfolding stepReply stepValues recordNumbers
+  told-record r reply e = go (step bytes at) refl step-refusing e
     where
-      go : (s : Step) → step bytes at ≡ s → Refusing s → 0 ∷ serial ∷ m ∷ t ∷ v ∷ start ∷ count ∷ reply ≡ outcome bytes s →
-          (step bytes at ≡ taken serial m t v start count) × (readReply m t v (take count (drop start bytes)) ≡ reply)
-      go (taken serial′ m′ t′ v′ start′ count′) q r e = (cc, cc)
-      go ended q r e = clash (cc)
-      go (stopped k carried) q r e = let z : 0 ≡ k = cc in absurd (omega arith)
+      go : (s : Step) → step bytes at ≡ s → Refusing s → 0 ∷ (recordNumbers r ++ reply) ≡ stepValues bytes s →
+          (step bytes at ≡ taken r) × (outcome bytes r ≡ reply)
+      go (taken p) q _ e =
+          let w = numbers-same r p reply (outcome bytes p) (cc) in
+          (q ∙ ap taken (sym (w .0)), rw (w .0) (sym (w .1)))
+      go ended q _ e = clash (cc)
+      go (stopped k carried) q p e = let z : 0 ≡ k = cc in absurd (omega arith)
 
   pub told-ended : 0 ∷ [] ≡ stepReply bytes at → step bytes at ≡ ended
-  unfolding stepReply outcome
+  unfolding stepReply stepValues recordNumbers
   told-ended e = go (step bytes at) refl step-refusing e
     where
-      go : (s : Step) → step bytes at ≡ s → Refusing s → 0 ∷ [] ≡ outcome bytes s → step bytes at ≡ ended
-      go (taken serial m t v start count) q r e = clash (cc)
-      go ended q r e = q
-      go (stopped k carried) q r e = let z : 0 ≡ k = cc in absurd (omega arith)
+      go : (s : Step) → step bytes at ≡ s → Refusing s → 0 ∷ [] ≡ stepValues bytes s → step bytes at ≡ ended
+      go (taken r) q _ e = clash (cc)
+      go ended q _ e = q
+      go (stopped k carried) q p e = let z : 0 ≡ k = cc in absurd (omega arith)
 
   pub told-stopped : (k : ℕ) (carried : List ℕ) → 0 < k → k ∷ carried ≡ stepReply bytes at → step bytes at ≡ stopped k carried
-  unfolding stepReply outcome
+  unfolding stepReply stepValues
   told-stopped k carried p e = go (step bytes at) refl e
     where
-      go : (s : Step) → step bytes at ≡ s → k ∷ carried ≡ outcome bytes s → step bytes at ≡ stopped k carried
-      go (taken serial m t v start count) q e = let z : k ≡ 0 = cc in absurd (omega arith)
+      go : (s : Step) → step bytes at ≡ s → k ∷ carried ≡ stepValues bytes s → step bytes at ≡ stopped k carried
+      go (taken r) q e = let z : k ≡ 0 = cc in absurd (omega arith)
       go ended q e = let z : k ≡ 0 = cc in absurd (omega arith)
       go (stopped j xs) q e = cc

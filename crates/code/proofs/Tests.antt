@@ -34,7 +34,8 @@ unfolding least
 least-passes test from zero l = absurd (omega arith)
 least-passes test from (suc fuel) l = go (test from) refl (least-passes test (suc from) fuel) l
   where
-    go : (t : Bool) → test from ≡ t → (least test (suc from) fuel < suc from + fuel → test (least test (suc from) fuel) ≡ true) → least test from (suc fuel) < from + suc fuel → test (least test from (suc fuel)) ≡ true
+    go : (t : Bool) → test from ≡ t → (least test (suc from) fuel < suc from + fuel → test (least test (suc from) fuel) ≡ true) →
+        least test from (suc fuel) < from + suc fuel → test (least test from (suc fuel)) ≡ true
     go true q ih h = rw (q, least) q
     go false q ih h = let h′ : least test (suc from) fuel < from + suc fuel = rw (q, least) at h in rw (q, least) (ih (omega arith))
 

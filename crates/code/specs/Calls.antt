@@ -1,19 +1,18 @@
 -- The calls on lent bytes. A reply is a list of numbers: 0 and the answer's values, or the refusal's number and the values that it carries.
-use Prim.Native.Nat.{ℕ, zero, suc, _-_, _^_}
-use mathlib.Core.Bool.{Bool, true, false, cond, not, _&&_}
+use Prim.Native.Nat.{ℕ, _-_, _^_}
+use mathlib.Core.Bool.{Bool, true, false, cond, not}
 use mathlib.Core.List.{List, [], _∷_, _++_}
-use lib.Dec.{leb, ltb, eqb}
+use lib.Dec.{leb, eqb}
 use lib.ListN.{getD, take, replicate}
-use Rattle.code.specs.Layout.{grant}
-use Rattle.code.specs.Deal.{written}
+use Rattle.code.specs.declared.Shape.{Shape}
+use Rattle.code.specs.Shape.{firstOf, rangesOf, orderOf, outside, granted, misfit, countsOf, widthOf}
 use Rattle.code.specs.Cells.{opened, sound, stored, turned}
-use Rattle.code.specs.Field.{Reading, unread, reads, read, Writing, refused, wrote, write}
+use Rattle.code.specs.Field.{Reading, blank, reads, miscounted, beyond, read, Writing, refused, wrote, write}
 use Rattle.code.specs.Run.{kept}
 
--- 01, Reading, of a buffer by a granted list hs with its ranges vs: its groups are read, where it is sound
+-- 01, Reading, of a buffer by a granted list hs with its ranges vs: its groups are read
 unfoldable pub readCells : ℕ → ℕ → ℕ → List ℕ → List ℕ → List ℕ → Reading
-readCells order m first hs vs bytes =
-    cond (sound order m (getD hs 0 0) bytes) (read (2 ^ m - 1) first hs vs (opened order m (getD hs 0 0) bytes)) unread
+readCells order m first hs vs bytes = read (2 ^ m - 1) first hs vs (opened order m (getD hs 0 0) bytes)
 
 -- 01, Cells in bytes: the groups that a write leaves, as a buffer
 unfoldable pub storing : ℕ → ℕ → Writing → Writing
@@ -25,94 +24,110 @@ unfoldable pub writeCells : ℕ → ℕ → ℕ → List ℕ → List ℕ → �
 writeCells order m first hs vs x bytes =
     cond (sound order m (getD hs 0 0) bytes) (storing order m (write (2 ^ m - 1) first hs vs x (opened order m (getD hs 0 0) bytes))) refused
 
--- "Refusal numbers, tested in this order": the number of the first test that holds, 0 where none does
-unfoldable pub refusal : List (ℕ × Bool) → ℕ
-refusal [] = 0
+-- "Refusal numbers, tested in this order": the first test that holds gives its number and what it carries; none does where the call is accepted
+unfoldable pub refusal : List (List ℕ × Bool) → List ℕ
+refusal [] = []
 refusal (test ∷ tests) = cond (test .1) (test .0) (refusal tests)
 
--- "A refusal carries its number only"
-unfoldable pub answer : ℕ → List ℕ → List ℕ
-answer zero values = 0 ∷ values
-answer (suc k) values = suc k ∷ []
+-- the reply: the refusal, or 0 and the answer's values
+unfoldable pub answer : List ℕ → List ℕ → List ℕ
+answer [] values = 0 ∷ values
+answer (k ∷ carried) values = k ∷ carried
+
+-- a call is accepted where no test holds
+unfoldable pub passes : List ℕ → Bool
+passes [] = true
+passes (k ∷ carried) = false
+
+-- what a call leaves in lent bytes: a refusal "stores nothing in cells or output"
+unfoldable pub leaves : List ℕ → List ℕ → List ℕ → List ℕ
+leaves [] after before = after
+leaves (k ∷ carried) after before = before
 
 -- docs/DECISIONS.md, 4: a reply in n fields, 0 in those that it lacks, as a struct or a row has them
 unfoldable pub filled : ℕ → List ℕ → List ℕ
 filled n reply = take n (reply ++ replicate n 0)
 
--- "m, cells (wits) in a group: 2 to 4. t, generations: 2 to 16. v, range: 2 to 2^56"; "g, groups offered to a layout: 0 to 256"
-unfoldable pub outside : ℕ → ℕ → ℕ → ℕ → Bool
-outside m t v g = not ((leb 2 m && leb m 4) && (leb 2 t && leb t 16) && (leb 2 v && leb v (2 ^ 56)) && leb g 256)
-
--- "It fits when h_1 ≤ g"
-unfoldable pub misfit : ℕ → List ℕ → Bool
-misfit g hs = ltb g (getD hs 0 0)
-
--- 01, Layout: t equal ranges v, and generation 1 sums "over k = 0 .."
-unfoldable pub granted : ℕ → ℕ → ℕ → ℕ → List ℕ
-granted m t v g = grant g m 0 (replicate t v)
+-- the numbers of a layout's struct: its refusal and sixteen counts, for t is at most 16
+abbrev pub layoutFields : ℕ
+layoutFields = 17
 
 -- the table's rows for layout, in its order: 1, 2
-unfoldable pub layoutRefusal : ℕ → ℕ → ℕ → ℕ → ℕ
-layoutRefusal m t v g = refusal ((1, outside m t v g) ∷ (2, misfit g (granted m t v g)) ∷ [])
+unfoldable pub layoutRefusal : Shape → ℕ → List ℕ
+layoutRefusal s g = refusal ((1 ∷ [], outside s g) ∷ (2 ∷ [], misfit g (granted s g)) ∷ [])
 
 -- the call's answer: "The granted list"
-unfoldable pub layoutReply : ℕ → ℕ → ℕ → ℕ → List ℕ
-layoutReply m t v g = answer (layoutRefusal m t v g) (granted m t v g)
+unfoldable pub layoutReply : Shape → ℕ → List ℕ
+layoutReply s g = answer (layoutRefusal s g) (granted s g)
 
--- "Read, write and export ask for their layout with g = 256", and wits stand high bit first
-unfoldable pub fieldRead : ℕ → ℕ → ℕ → List ℕ → Reading
-fieldRead m t v bytes = readCells 0 m 0 (granted m t v 256) (replicate t v) bytes
+-- the reading of a field's cells by its layout
+unfoldable pub fieldRead : Shape → List ℕ → Reading
+fieldRead s bytes = readCells (orderOf s) (s .m) (firstOf s) (countsOf s) (rangesOf s) bytes
 
--- the same sentence, of write
-unfoldable pub fieldWrite : ℕ → ℕ → ℕ → ℕ → List ℕ → Writing
-fieldWrite m t v x bytes = writeCells 0 m 0 (granted m t v 256) (replicate t v) x bytes
+-- the write on a field's cells by its layout
+unfoldable pub fieldWrite : Shape → ℕ → List ℕ → Writing
+fieldWrite s x bytes = writeCells (orderOf s) (s .m) (firstOf s) (countsOf s) (rangesOf s) x bytes
 
 -- "wrong byte count, or a left-over bit is 1"
-unfoldable pub unsound : ℕ → ℕ → ℕ → List ℕ → Bool
-unsound m t v bytes = not (sound 0 m (getD (granted m t v 256) 0 0) bytes)
+unfoldable pub unsound : Shape → List ℕ → Bool
+unsound s bytes = not (sound (orderOf s) (s .m) (widthOf s) bytes)
 
 -- "the cells have no reading"
 unfoldable pub unreadable : Reading → Bool
-unreadable unread = true
+unreadable blank = false
 unreadable (reads i x) = false
+unreadable (miscounted i u) = true
+unreadable (beyond i) = true
 
--- 01, Reading: the generation of a reading
+-- "generation is already t"
+unfoldable pub spent : ℕ → Reading → Bool
+spent t blank = false
+spent t (reads i x) = eqb i t
+spent t (miscounted i u) = false
+spent t (beyond i) = false
+
+-- 01, Reading: the generation of a reading; "All-zero cells read as generation 1, number 0"
 unfoldable pub generation : Reading → ℕ
-generation unread = 0
+generation blank = 1
 generation (reads i x) = i
+generation (miscounted i u) = i
+generation (beyond i) = i
 
 -- 01, Reading: the number of a reading
 unfoldable pub holds : Reading → ℕ
-holds unread = 0
+holds blank = 0
 holds (reads i x) = x
+holds (miscounted i u) = 0
+holds (beyond i) = 0
 
 -- "Writes left: t for all-zero cells, else t less the generation"
-unfoldable pub left : ℕ → ℕ → List ℕ → ℕ
-left t i gs = cond (eqb (written gs) 0) t (t - i)
+unfoldable pub left : ℕ → Reading → ℕ
+left t blank = t
+left t (reads i x) = t - i
+left t (miscounted i u) = t - i
+left t (beyond i) = t - i
 
 -- the table's rows for read, in its order: 1, 2, 3, 4
-unfoldable pub readRefusal : ℕ → ℕ → ℕ → List ℕ → ℕ
-readRefusal m t v bytes = refusal (
-    (1, outside m t v 256) ∷
-    (2, misfit 256 (granted m t v 256)) ∷
-    (3, unsound m t v bytes) ∷
-    (4, unreadable (fieldRead m t v bytes)) ∷ [])
+unfoldable pub readRefusal : Shape → List ℕ → List ℕ
+readRefusal s bytes = refusal (
+    (1 ∷ [], outside s 256) ∷
+    (2 ∷ [], misfit 256 (countsOf s)) ∷
+    (3 ∷ [], unsound s bytes) ∷
+    (4 ∷ [], unreadable (fieldRead s bytes)) ∷ [])
 
--- the call's answer: generation, number and "Writes left"
-unfoldable pub readReply : ℕ → ℕ → ℕ → List ℕ → List ℕ
-readReply m t v bytes =
-    let r = fieldRead m t v bytes in
-    answer (readRefusal m t v bytes) (generation r ∷ holds r ∷ left t (generation r) (opened 0 m (getD (granted m t v 256) 0 0) bytes) ∷ [])
+-- the call's answer: generation, number and writes left
+unfoldable pub readReply : Shape → List ℕ → List ℕ
+readReply s bytes = let r = fieldRead s bytes in answer (readRefusal s bytes) (generation r ∷ holds r ∷ left (s .t) r ∷ [])
 
 -- the table's rows for write, in its order: 1, 2, 3, 6, 4, 5
-unfoldable pub writeRefusal : ℕ → ℕ → ℕ → ℕ → List ℕ → ℕ
-writeRefusal m t v x bytes = refusal (
-    (1, outside m t v 256) ∷
-    (2, misfit 256 (granted m t v 256)) ∷
-    (3, unsound m t v bytes) ∷
-    (6, leb v x) ∷
-    (4, unreadable (fieldRead m t v bytes)) ∷
-    (5, eqb (generation (fieldRead m t v bytes)) t) ∷ [])
+unfoldable pub writeRefusal : Shape → ℕ → List ℕ → List ℕ
+writeRefusal s x bytes = refusal (
+    (1 ∷ [], outside s 256) ∷
+    (2 ∷ [], misfit 256 (countsOf s)) ∷
+    (3 ∷ [], unsound s bytes) ∷
+    (6 ∷ [], leb (s .v) x) ∷
+    (4 ∷ [], unreadable (fieldRead s bytes)) ∷
+    (5 ∷ [], spent (s .t) (fieldRead s bytes)) ∷ [])
 
 -- 01, Writing: the generation "written at"
 unfoldable pub madeAt : Writing → ℕ
@@ -120,11 +135,15 @@ madeAt refused = 0
 madeAt (wrote i bytes) = i
 
 -- "The answer is the generation and the count of wits turned from 0 to 1"
-unfoldable pub writeReply : ℕ → ℕ → ℕ → ℕ → List ℕ → List ℕ
-writeReply m t v x bytes =
-    let w = fieldWrite m t v x bytes in
-    answer (writeRefusal m t v x bytes) (madeAt w ∷ turned 0 bytes (kept bytes w) ∷ [])
+unfoldable pub writeReply : Shape → ℕ → List ℕ → List ℕ
+writeReply s x bytes =
+    let w = fieldWrite s x bytes in
+    answer (writeRefusal s x bytes) (madeAt w ∷ turned (orderOf s) bytes (kept bytes w) ∷ [])
 
--- the cells afterwards: a refusal "stores nothing in cells"
-unfoldable pub writeLeaves : ℕ → ℕ → ℕ → ℕ → List ℕ → List ℕ
-writeLeaves m t v x bytes = cond (eqb (writeRefusal m t v x bytes) 0) (kept bytes (fieldWrite m t v x bytes)) bytes
+-- the wits that a write turned, by its reply: "a refused write turns no cell"
+unfoldable pub turnedBy : List ℕ → ℕ
+turnedBy reply = cond (eqb (getD reply 0 0) 0) (getD reply 2 0) 0
+
+-- the cells afterwards
+unfoldable pub writeLeaves : Shape → ℕ → List ℕ → List ℕ
+writeLeaves s x bytes = leaves (writeRefusal s x bytes) (kept bytes (fieldWrite s x bytes)) bytes

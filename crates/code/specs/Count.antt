@@ -9,7 +9,8 @@ choose n zero = 1
 choose zero (suc k) = 0
 choose (suc n) (suc k) = choose n k + choose n (suc k)
 
--- 01, Layout, b and c: the sum of C(s, j)·b^j over j from `first` to k − 1, which counts the patterns of s places that write so many of them, each with one of b values
+-- 01, Layout, b and c: the sum of C(s, j)·b^j over j from `first` to k − 1, which counts the patterns of s places that write so many of them, each with one
+-- of b values
 unfoldable pub fewer : ℕ → ℕ → ℕ → ℕ → ℕ
 fewer b s first zero = 0
 fewer b s first (suc k) = fewer b s first k + cond (leb first k) (choose s k * b ^ k) 0

@@ -1,5 +1,5 @@
--- Document 01, "Reading" and "Writing", on groups. e is 2^m − 1, the erased value; hs and vs are the counts and the ranges of the generations; `first` is the least number of
--- places that generation 1 writes. Generation n + 1 stands at place n of both lists, and the count after the last generation is 0.
+-- Document 01, "Reading" and "Writing", on groups. e is 2^m − 1, the erased value; hs and vs are the counts and the ranges of the generations; `first` is
+-- the least number of places that generation 1 writes. Generation n + 1 stands at place n of both lists, and the count after the last generation is 0.
 use Prim.Native.Nat.{ℕ, zero, suc, _+_, _-_}
 use mathlib.Core.Bool.{cond, _&&_}
 use mathlib.Core.List.{List, [], _∷_}
@@ -38,7 +38,8 @@ unfoldable pub carriers : ℕ → ℕ → List ℕ → List ℕ
 carriers e zero gs = gs
 carriers e (suc n) gs = unerased e gs
 
--- the number that the places tell: "Its number is" for a pattern, and after the last generation, where no count (0) follows, "the digits .. of the number plus 1"
+-- the number that the places tell: "Its number is" for a pattern, and after the last generation, where no count (0) follows, "the digits .. of the number
+-- plus 1"
 unfoldable pub told : ℕ → ℕ → ℕ → ℕ → List ℕ → ℕ
 told e b first zero xs = plain e xs - 1
 told e b first (suc h′) xs = number b first xs
@@ -48,19 +49,25 @@ unfoldable pub pattern : ℕ → ℕ → ℕ → ℕ → ℕ → ℕ → List �
 pattern e b first h zero x = plainly e h (x + 1)
 pattern e b first h (suc h′) x = deal b first h x
 
--- 01, Reading: generation and number, or "no reading"
+-- 01, Reading, with the reason where there is none: all cells zero; a generation and a number; a generation whose unerased groups are so many and not
+-- "exactly h_i"; a generation whose number is not "below v"
 pub data Reading : Type 0 where
-  unread : Reading
-  reads : ℕ → ℕ → Reading
+  blank : Reading
+  reads : (generation number : ℕ) → Reading
+  miscounted : (generation unerased : ℕ) → Reading
+  beyond : (generation : ℕ) → Reading
 
--- "From generation 2 on the unerased groups must number exactly h_i. The number must be below v. Otherwise the cells have no reading."
--- Where generation 1 writes from one place on, groups with none written are no pattern of it; later generations have a written place by their zero count.
-unfoldable pub read : ℕ → ℕ → List ℕ → List ℕ → List ℕ → Reading
-read e first hs vs gs =
-    let n = past hs (zeros gs) in
+-- "From generation 2 on the unerased groups must number exactly h_i. The number must be below v. Otherwise the cells have no reading.", at generation n + 1;
+-- all groups of a field are h_1
+unfoldable pub judged : ℕ → ℕ → List ℕ → List ℕ → List ℕ → ℕ → Reading
+judged e first hs vs gs n =
     let xs = carriers e n gs in
     let x = told e (base e n) (start first n) (getD hs (suc n) 0) xs in
-    cond (leb (start first n) (written xs) && (eqb (length xs) (getD hs n 0) && ltb x (getD vs n 0))) (reads (suc n) x) unread
+    cond (eqb (length xs) (getD hs n 0)) (cond (ltb x (getD vs n 0)) (reads (suc n) x) (beyond (suc n))) (miscounted (suc n) (length xs))
+
+-- all-zero cells have used no generation; others are of the generation that z points to
+unfoldable pub read : ℕ → ℕ → List ℕ → List ℕ → List ℕ → Reading
+read e first hs vs gs = cond (eqb (written gs) 0) blank (judged e first hs vs gs (past hs (zeros gs)))
 
 -- "every nonzero group is set to all ones; then .. the leftmost zero group is erased", `spare` times
 unfoldable pub erase : ℕ → ℕ → List ℕ → List ℕ
@@ -96,11 +103,13 @@ pub data Writing : Type 0 where
 unfoldable pub writeAt : ℕ → ℕ → List ℕ → List ℕ → ℕ → List ℕ → ℕ → Writing
 writeAt e first hs vs x gs n = cond (ltb n (length hs) && ltb x (getD vs n 0)) (wrote (suc n) (after e first hs n x gs)) refused
 
--- "Cells read as generation i < t are written at i + 1"
+-- "All-zero cells are written at generation 1. Cells read as generation i < t are written at i + 1"
 unfoldable pub writeOn : ℕ → ℕ → List ℕ → List ℕ → ℕ → List ℕ → Reading → Writing
-writeOn e first hs vs x gs unread = refused
+writeOn e first hs vs x gs blank = writeAt e first hs vs x gs 0
 writeOn e first hs vs x gs (reads i y) = writeAt e first hs vs x gs i
+writeOn e first hs vs x gs (miscounted i u) = refused
+writeOn e first hs vs x gs (beyond i) = refused
 
--- "All-zero cells are written at generation 1"
+-- 01, Writing, of groups: by what they read as
 unfoldable pub write : ℕ → ℕ → List ℕ → List ℕ → ℕ → List ℕ → Writing
-write e first hs vs x gs = cond (eqb (written gs) 0) (writeAt e first hs vs x gs 0) (writeOn e first hs vs x gs (read e first hs vs gs))
+write e first hs vs x gs = writeOn e first hs vs x gs (read e first hs vs gs)

@@ -15,7 +15,8 @@ pub record Meets (m first : ℕ) (hs vs : List ℕ) : Type 0 where
   pub c : (i : ℕ) → 0 < i → suc i < length hs → getD vs i 0 ≤ fewer (2 ^ m - 2) (getD hs i 0) 1 (suc (getD hs i 0 - getD hs (suc i) 0))
   pub d : getD vs (length hs - 1) 0 ≤ (2 ^ m - 1) ^ getD hs (length hs - 1) 0 - 1
 
--- b, c and d as one: how many numbers h groups hold that leave h′ of them zero, the next generation's count, which is 0 after the last; e is 2^m − 1, and a written place takes one of b values
+-- b, c and d as one: how many numbers h groups hold that leave h′ of them zero, the next generation's count, which is 0 after the last; e is 2^m − 1, and a
+-- written place takes one of b values
 unfoldable pub room : ℕ → ℕ → ℕ → ℕ → ℕ → ℕ
 room e b first h zero = e ^ h - 1
 room e b first h (suc h′) = fewer b h first (suc (h - suc h′))

@@ -1,7 +1,9 @@
 pub mod Count
 pub mod Lists
 pub mod Layout
+pub mod Shape
 pub mod Deal
+pub mod Chosen
 pub mod Cells
 pub mod Field
 pub mod Run

@@ -1,1 +1,20 @@
-// The code of document 01 as definitions (specs/) and the theorems about them (proofs/). There is no program code here.
+// Document 01 as definitions (specs/) and the theorems about them (proofs/). Of the program only what the definitions share with it stands here.
+
+// What a caller gives of a field.
+#[repr(C)]
+pub struct Shape {
+    // Wits in a group.
+    pub m: u64,
+    // Generations.
+    pub t: u64,
+    // The range: numbers are below it.
+    pub v: u64,
+}
+
+// A record of a dump: its cells are the `count` bytes from `start` on.
+pub struct Record {
+    pub serial: u64,
+    pub shape: Shape,
+    pub start: usize,
+    pub count: usize,
+}

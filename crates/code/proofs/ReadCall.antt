@@ -1,0 +1,63 @@
+-- The read call, test by test, as a program comes to them.
+use Prim.Native.Nat.{ℕ, suc, _-_, _≤_, _<_}
+use mathlib.Core.Path.{_≡_, refl, _∙_}
+use mathlib.Core.Bool.{Bool, true, false}
+use mathlib.Core.List.{List, [], _∷_}
+use native.Mathlib.Omega.{arith}
+use Rattle.code.specs.declared.Shape.{Shape}
+use Rattle.code.specs.Shape.{orderOf, outside, misfit, granted, countsOf, widthOf}
+use Rattle.code.specs.Cells.{sound}
+use Rattle.code.specs.Field.{Reading, blank, reads, miscounted, beyond}
+use Rattle.code.specs.Calls.{refusal, answer, layoutRefusal, fieldRead, unsound, unreadable, generation, holds, left, readRefusal, readReply}
+use Rattle.code.proofs.Tests.{clash}
+use Rattle.code.proofs.Field.{Tells}
+use Rattle.code.proofs.LayoutCall.{refusal-some, refused-early, passed-early}
+
+module _ (s : Shape) (bs : List ℕ) where
+  answered-refusal : (k : ℕ) → readRefusal s bs ≡ k ∷ [] → readReply s bs ≡ k ∷ []
+  unfolding readReply answer
+  answered-refusal k q = rw q
+
+  pub read-no-layout : (k : ℕ) → layoutRefusal s 256 ≡ k ∷ [] → readReply s bs ≡ k ∷ []
+  unfolding layoutRefusal readRefusal countsOf
+  read-no-layout k q = answered-refusal k (refused-early (outside s 256) (misfit 256 (granted s 256)) k [] _ q)
+
+  module _ (ok : layoutRefusal s 256 ≡ []) where
+    read-tests : readRefusal s bs ≡ refusal ((3 ∷ [], unsound s bs) ∷ (4 ∷ [], unreadable (fieldRead s bs)) ∷ [])
+    unfolding readRefusal layoutRefusal countsOf
+    read-tests = passed-early (outside s 256) (misfit 256 (granted s 256)) _ ok
+
+    pub read-unsound : sound (orderOf s) (s .m) (widthOf s) bs ≡ false → readReply s bs ≡ 3 ∷ []
+    unfolding refusal unsound
+    read-unsound f = answered-refusal 3 (read-tests ∙ rw f)
+
+    module _ (f : sound (orderOf s) (s .m) (widthOf s) bs ≡ true) where
+      pub read-unread : unreadable (fieldRead s bs) ≡ true → readReply s bs ≡ 4 ∷ []
+      unfolding refusal unsound
+      read-unread r = answered-refusal 4 (read-tests ∙ rw (f, r))
+
+      pub read-found : (r : Reading) → fieldRead s bs ≡ r → unreadable r ≡ false → readReply s bs ≡ 0 ∷ generation r ∷ holds r ∷ left (s .t) r ∷ []
+      unfolding refusal unsound readReply answer
+      read-found r q u = rw (q, read-tests, f, q, u)
+
+      -- the reply of cells that tell a generation and a number
+      pub read-as : (i x : ℕ) → Tells (fieldRead s bs) i x → readReply s bs ≡ 0 ∷ i ∷ x ∷ left (s .t) (fieldRead s bs) ∷ []
+      unfolding generation holds left unreadable
+      read-as i x t = go (fieldRead s bs) t (read-found (fieldRead s bs) refl)
+        where
+          go : (r : Reading) → Tells r i x → (unreadable r ≡ false → readReply s bs ≡ 0 ∷ generation r ∷ holds r ∷ left (s .t) r ∷ []) →
+              readReply s bs ≡ 0 ∷ i ∷ x ∷ left (s .t) r ∷ []
+          go blank t q = rw (t .0, t .1) (q refl)
+          go (reads j y) t q = rw (t .0, t .1) (q refl)
+          go (miscounted j u) t q = absurd t
+          go (beyond j) t q = absurd t
+
+-- a reply of one number is a refusal
+pub read-refusing : (s : Shape) (bs : List ℕ) (k : ℕ) → readReply s bs ≡ k ∷ [] → 0 < k
+unfolding readReply readRefusal answer
+read-refusing s bs k e = go (readRefusal s bs) refl e
+  where
+    go : (r : List ℕ) → readRefusal s bs ≡ r →
+        answer r (generation (fieldRead s bs) ∷ holds (fieldRead s bs) ∷ left (s .t) (fieldRead s bs) ∷ []) ≡ k ∷ [] → 0 < k
+    go [] q e = clash (cc)
+    go (j ∷ carried) q e = let z : k ≡ j = cc in rw z (refusal-some _ (omega arith, (omega arith, (omega arith, (omega arith, tt)))) j carried q)

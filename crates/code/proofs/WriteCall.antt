@@ -1,0 +1,220 @@
+-- The write call: test by test as a program comes to them, where a write goes and what it leaves, and that it is refused exactly where the rules make no write.
+use Prim.Native.Nat.{ℕ, zero, suc, _-_, _^_, _≤_, _<_}
+use mathlib.Core.Path.{_≡_, refl, sym, _∙_}
+use mathlib.Core.Logic.{inl, inr}
+use mathlib.Core.Bool.{Bool, true, false, true≢false, cond, not, _&&_}
+use mathlib.Core.List.{List, [], _∷_}
+use native.Mathlib.Omega.{arith}
+use native.Mathlib.Decide.{ℕ-discrete}
+use lib.ListN.{length, getD}
+use lib.Arith.{lt-of-le-ne}
+use lib.Dec.{leb, ltb, eqb}
+use borrow.Author.Tests.{le-leb, lt-leb, lt-ltb, le-ltb, eq-eqb, ne-eqb}
+use Rattle.code.specs.declared.Shape.{Shape}
+use Rattle.code.specs.Shape.{firstOf, rangesOf, orderOf, outside, misfit, granted, countsOf, widthOf}
+use Rattle.code.specs.Lists.{Upto}
+use Rattle.code.specs.Layout.{room}
+use Rattle.code.specs.Deal.{written}
+use Rattle.code.specs.Cells.{wit, opened, sound, stored, turned}
+use Rattle.code.specs.Field.{zeros, past, base, start, pattern, Reading, blank, reads, miscounted, beyond, read, erase, cleared, lay, after, Writing, refused, wrote, writeAt, writeOn, write}
+use Rattle.code.specs.Run.{accepted, kept}
+use Rattle.code.specs.Calls.{readCells, storing, writeCells, refusal, answer, passes, leaves, layoutRefusal, fieldRead, fieldWrite, unsound, unreadable, spent, writeRefusal, madeAt, writeReply, writeLeaves}
+use Rattle.code.proofs.Tests.{le-or-lt}
+use Rattle.code.proofs.Conditions.{holds-room}
+use Rattle.code.proofs.Groups.{upto-grows, blank-zeros, erase-blank}
+use Rattle.code.proofs.Field.{past-next, past-below, Ready, read-past, blank-read, pictured, write-read, write-taken}
+use Rattle.code.proofs.Bytes.{storing-accepted, triedCells}
+use Rattle.code.proofs.LayoutCall.{refusal-some, refused-early, passed-early, range-at, within, counts-length, is-layout}
+
+-- a refused write: its number alone, and the cells as they were
+abbrev pub Refuses : Shape → ℕ → List ℕ → ℕ → Type 0
+Refuses s x bs k = (writeReply s x bs ≡ k ∷ []) × (writeLeaves s x bs ≡ bs)
+
+module _ (s : Shape) (x : ℕ) (bs : List ℕ) where
+  refuses : (k : ℕ) → writeRefusal s x bs ≡ k ∷ [] → Refuses s x bs k
+  unfolding writeReply writeLeaves answer leaves
+  refuses k q = (rw q, rw q)
+
+  pub write-some : (k : ℕ) (carried : List ℕ) → writeRefusal s x bs ≡ k ∷ carried → 0 < k
+  unfolding writeRefusal
+  write-some k carried q = refusal-some _ (omega arith, (omega arith, (omega arith, (omega arith, (omega arith, (omega arith, tt)))))) k carried q
+
+  pub write-no-layout : (k : ℕ) → layoutRefusal s 256 ≡ k ∷ [] → Refuses s x bs k
+  unfolding layoutRefusal writeRefusal countsOf
+  write-no-layout k q = refuses k (refused-early (outside s 256) (misfit 256 (granted s 256)) k [] _ q)
+
+  module _ (ok : layoutRefusal s 256 ≡ []) where
+    -- the tests of a write from the third on
+    write-tests : writeRefusal s x bs ≡
+        refusal ((3 ∷ [], unsound s bs) ∷ (6 ∷ [], leb (s .v) x) ∷ (4 ∷ [], unreadable (fieldRead s bs)) ∷ (5 ∷ [], spent (s .t) (fieldRead s bs)) ∷ [])
+    unfolding writeRefusal layoutRefusal countsOf
+    write-tests = passed-early (outside s 256) (misfit 256 (granted s 256)) _ ok
+
+    pub write-unsound : sound (orderOf s) (s .m) (widthOf s) bs ≡ false → Refuses s x bs 3
+    unfolding refusal unsound
+    write-unsound f = refuses 3 (write-tests ∙ rw f)
+
+    module _ (f : sound (orderOf s) (s .m) (widthOf s) bs ≡ true) where
+      pub write-large : s .v ≤ x → Refuses s x bs 6
+      unfolding refusal unsound
+      write-large l = refuses 6 (write-tests ∙ rw (f, le-leb (s .v) x l))
+
+      pub write-unread : x < s .v → unreadable (fieldRead s bs) ≡ true → Refuses s x bs 4
+      unfolding refusal unsound
+      write-unread l r = refuses 4 (write-tests ∙ rw (f, lt-leb (s .v) x l, r))
+
+      pub write-spent : (i y : ℕ) → x < s .v → fieldRead s bs ≡ reads i y → i ≡ s .t → Refuses s x bs 5
+      unfolding refusal unsound unreadable spent
+      write-spent i y l r q = refuses 5 (write-tests ∙ rw (f, lt-leb (s .v) x l, r, eq-eqb i (s .t) q))
+
+      -- an accepted write: the generation, the wits turned, and the cells of the groups that the rules leave
+      pub write-made : (r : Reading) (n : ℕ) (gs : List ℕ) → x < s .v → fieldRead s bs ≡ r → unreadable r ≡ false → spent (s .t) r ≡ false →
+          write (2 ^ s .m - 1) (firstOf s) (countsOf s) (rangesOf s) x (opened (orderOf s) (s .m) (widthOf s) bs) ≡ wrote n gs →
+          (writeReply s x bs ≡ 0 ∷ n ∷ turned (orderOf s) bs (stored (orderOf s) (s .m) gs) ∷ []) × (writeLeaves s x bs ≡ stored (orderOf s) (s .m) gs)
+      unfolding refusal unsound fieldWrite writeCells storing writeReply writeLeaves answer leaves madeAt kept widthOf
+      write-made r n gs l q u p w =
+          let z : writeRefusal s x bs ≡ [] = write-tests ∙ rw (f, lt-leb (s .v) x l, q, u, p) in
+          (rw (z, f, w), rw (z, f, w))
+
+-- Where a write goes, what room its number has, and what it leaves, on groups.
+module _ (s : Shape) (ok : layoutRefusal s 256 ≡ []) where
+  abbrev pub full : ℕ
+  full = 2 ^ s .m - 1
+
+  abbrev pub patternAt : ℕ → ℕ → List ℕ
+  patternAt n x = pattern full (base full n) (start (firstOf s) n) (getD (countsOf s) n 0) (getD (countsOf s) (suc n) 0) x
+
+  -- there is room for every number of the range, and its pattern has values below 2^m
+  pub room-for : (n x : ℕ) → n < s .t → x < s .v → x < room full (base full n) (start (firstOf s) n) (getD (countsOf s) n 0) (getD (countsOf s) (suc n) 0)
+  room-for n x l h = omega (
+    arith,
+    range-at s n l,
+    holds-room full (firstOf s) (countsOf s) (rangesOf s) n (is-layout s ok .holds)
+        (omega (arith, counts-length s ok)),
+  )
+
+  pub pattern-small : (n x : ℕ) → n < s .t → x < s .v → Upto full (patternAt n x)
+  unfolding base
+  pattern-small n x l h =
+      let p = pictured full (firstOf s) (countsOf s) (rangesOf s) (is-layout s ok) n x (omega (arith, counts-length s ok)) (omega (arith, range-at s n l)) in
+      upto-grows (base full n) full (base-most full n) (patternAt n x) (p .small)
+    where
+      base-most : (e n : ℕ) → base e n ≤ e
+      base-most e zero = omega arith
+      base-most e (suc n) = omega arith
+
+  -- the spare groups are those above the generation's count; blank groups have none
+  pub after-erased : (n x : ℕ) (gs : List ℕ) → Ready (countsOf s) n gs → length gs ≡ widthOf s →
+      after full (firstOf s) (countsOf s) n x gs ≡ lay (erase full (zeros gs - getD (countsOf s) n 0) gs) (patternAt n x)
+  unfolding after cleared widthOf
+  after-erased zero x gs r l =
+      let z : zeros gs - getD (countsOf s) 0 0 ≡ 0 = omega (arith, blank-zeros gs r) in
+      rw (z, erase-blank full gs r)
+  after-erased (suc n) x gs r l = refl
+
+  -- all-zero groups are written at generation 1, others at the one after what they read as
+  pub first-write : (x : ℕ) (gs : List ℕ) → read full (firstOf s) (countsOf s) (rangesOf s) gs ≡ blank → x < s .v →
+      (write full (firstOf s) (countsOf s) (rangesOf s) x gs ≡ wrote 1 (after full (firstOf s) (countsOf s) 0 x gs)) × Ready (countsOf s) 0 gs
+  unfolding writeOn
+  first-write x gs r h =
+      let w = within s ok in (
+        write-read full (firstOf s) (countsOf s) (rangesOf s) x gs blank r
+            ∙ write-taken full (firstOf s) (countsOf s) (rangesOf s) x gs 0 (omega (arith, counts-length s ok, w .t-low))
+            (omega (arith, range-at s 0 (omega (arith, w .t-low)))),
+        blank-read full (firstOf s) (countsOf s) (rangesOf s) gs r,
+      )
+
+  pub next-write : (x i y : ℕ) (gs : List ℕ) → x < s .v → read full (firstOf s) (countsOf s) (rangesOf s) gs ≡ reads i y → i < s .t →
+      (write full (firstOf s) (countsOf s) (rangesOf s) x gs ≡ wrote (suc i) (after full (firstOf s) (countsOf s) i x gs)) × Ready (countsOf s) i gs
+  unfolding writeOn
+  next-write x i y gs h r l =
+      let q = read-past full (firstOf s) (countsOf s) (rangesOf s) gs i y r in (
+        write-read full (firstOf s) (countsOf s) (rangesOf s) x gs (reads i y) r
+            ∙ write-taken full (firstOf s) (countsOf s) (rangesOf s) x gs i (omega (arith, counts-length s ok)) (omega (arith, range-at s i l)),
+        rw q (past-next (countsOf s) (zeros gs)),
+      )
+
+  -- the generation read is at most t
+  pub read-most : (gs : List ℕ) (i y : ℕ) → read full (firstOf s) (countsOf s) (rangesOf s) gs ≡ reads i y → i ≤ s .t
+  read-most gs i y r =
+      omega (
+        arith,
+        read-past full (firstOf s) (countsOf s) (rangesOf s) gs i y r,
+        below (countsOf s) (zeros gs)
+            (omega (arith, counts-length s ok, within s ok .t-low)),
+        counts-length s ok,
+      )
+    where
+      below : (hs : List ℕ) (z : ℕ) → 0 < length hs → past hs z < length hs
+      below [] z p = absurd (omega arith)
+      below (h ∷ hs) z p = past-below h hs z
+
+  -- A number is taken at a generation that is there exactly where it is in range.
+  at-accepted : (x i : ℕ) (gs : List ℕ) → i < s .t → accepted (writeAt full (firstOf s) (countsOf s) (rangesOf s) x gs i) ≡ ltb x (s .v)
+  unfolding writeAt accepted
+  at-accepted x i gs l = rw (lt-ltb i (length (countsOf s)) (omega (arith, counts-length s ok)), range-at s i l) (go (ltb x (s .v)))
+    where
+      go : (b : Bool) → accepted (cond (true && b) (wrote (suc i) (after full (firstOf s) (countsOf s) i x gs)) refused) ≡ b
+      go true = refl
+      go false = refl
+
+  at-spent : (x i : ℕ) (gs : List ℕ) → i ≡ s .t → writeAt full (firstOf s) (countsOf s) (rangesOf s) x gs i ≡ refused
+  unfolding writeAt
+  at-spent x i gs q = rw (le-ltb i (length (countsOf s)) (omega (arith, counts-length s ok)))
+
+  abbrev lastTests : ℕ → Reading → List (List ℕ × Bool)
+  lastTests x r = (6 ∷ [], leb (s .v) x) ∷ (4 ∷ [], unreadable r) ∷ (5 ∷ [], spent (s .t) r) ∷ []
+
+  acceptance : (x : ℕ) (gs : List ℕ) (r : Reading) → read full (firstOf s) (countsOf s) (rangesOf s) gs ≡ r →
+      passes (refusal (lastTests x r)) ≡ accepted (writeOn full (firstOf s) (countsOf s) (rangesOf s) x gs r)
+  unfolding refusal passes unreadable spent writeOn accepted
+  acceptance x gs r q = elim (le-or-lt (s .v) x) [
+    | inl h ↦ large h r q
+    | inr h ↦ small h r q
+  ]
+    where
+      large : s .v ≤ x → (r : Reading) → read full (firstOf s) (countsOf s) (rangesOf s) gs ≡ r →
+          passes (refusal (lastTests x r)) ≡ accepted (writeOn full (firstOf s) (countsOf s) (rangesOf s) x gs r)
+      large h blank q = rw (le-leb (s .v) x h, at-accepted x 0 gs (omega (arith, within s ok .t-low)), le-ltb x (s .v) h)
+      large h (reads i y) q = elim (ℕ-discrete i (s .t)) [
+        | yes e ↦ rw (le-leb (s .v) x h, at-spent x i gs e)
+        | no d ↦ rw (le-leb (s .v) x h, at-accepted x i gs (lt-of-le-ne (read-most gs i y q) d), le-ltb x (s .v) h)
+      ]
+      large h (miscounted i u) q = rw (le-leb (s .v) x h)
+      large h (beyond i) q = rw (le-leb (s .v) x h)
+
+      small : x < s .v → (r : Reading) → read full (firstOf s) (countsOf s) (rangesOf s) gs ≡ r →
+          passes (refusal (lastTests x r)) ≡ accepted (writeOn full (firstOf s) (countsOf s) (rangesOf s) x gs r)
+      small h blank q = rw (lt-leb (s .v) x h, at-accepted x 0 gs (omega (arith, within s ok .t-low)), lt-ltb x (s .v) h)
+      small h (reads i y) q = elim (ℕ-discrete i (s .t)) [
+        | yes e ↦ rw (lt-leb (s .v) x h, eq-eqb i (s .t) e, at-spent x i gs e)
+        | no d ↦ rw (lt-leb (s .v) x h, ne-eqb i (s .t) d, at-accepted x i gs (lt-of-le-ne (read-most gs i y q) d), lt-ltb x (s .v) h)
+      ]
+      small h (miscounted i u) q = rw (lt-leb (s .v) x h)
+      small h (beyond i) q = rw (lt-leb (s .v) x h)
+
+  -- A write is refused with no number exactly where the rules make it.
+  pub refused-not : (x : ℕ) (bs : List ℕ) → passes (writeRefusal s x bs) ≡ accepted (fieldWrite s x bs)
+  unfolding refusal passes unsound fieldRead fieldWrite readCells writeCells accepted widthOf write
+  refused-not x bs = rw (write-tests s x bs ok) (go (sound (orderOf s) (s .m) (widthOf s) bs))
+    where
+      gs : List ℕ
+      gs = opened (orderOf s) (s .m) (widthOf s) bs
+
+      r : Reading
+      r = read full (firstOf s) (countsOf s) (rangesOf s) gs
+
+      go : (b : Bool) → passes (refusal ((3 ∷ [], not b) ∷ lastTests x r)) ≡
+          accepted (cond b (storing (orderOf s) (s .m) (writeOn full (firstOf s) (countsOf s) (rangesOf s) x gs r)) refused)
+      go false = refl
+      go true = acceptance x gs r refl ∙ sym (storing-accepted (orderOf s) (s .m) (writeOn full (firstOf s) (countsOf s) (rangesOf s) x gs r))
+
+  -- so the cells left are those of the rules
+  pub leaves-is : (x : ℕ) (bs : List ℕ) → writeLeaves s x bs ≡ triedCells (orderOf s) (s .m) (firstOf s) (countsOf s) (rangesOf s) x bs
+  unfolding writeLeaves fieldWrite triedCells accepted kept leaves passes
+  leaves-is x bs = go (writeRefusal s x bs) (fieldWrite s x bs) (refused-not x bs)
+    where
+      go : (k : List ℕ) (w : Writing) → passes k ≡ accepted w → leaves k (kept bs w) bs ≡ kept bs w
+      go [] w q = refl
+      go (k ∷ carried) refused q = refl
+      go (k ∷ carried) (wrote i bs′) q = absurd (true≢false (sym q))
