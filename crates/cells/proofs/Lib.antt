@@ -1,4 +1,10 @@
-pub mod Held
-pub mod Turns
-pub mod Walks
-pub mod Writing
+pub mod Octets
+pub mod Values
+pub mod Putting
+pub mod Counting
+pub mod Swapping
+pub mod Regroup
+pub mod Sizes
+pub mod Loading
+pub mod Storing
+pub mod Whole

@@ -1,87 +1,89 @@
--- What the calls on wits and groups promise. The wits of cells are a function from a wit's number to 0 or 1.
-use Prim.Native.Nat.{ℕ, _+_, _*_, _-_, _^_, _%_, _<_, _≤_, max}
+-- What moving a field between bytes and words promises. The wits of cells are a function from a wit's number to 0 or 1.
+use Prim.Native.Nat.{ℕ, _+_, _*_, _-_, _^_, _/_, _%_, _<_, _≤_}
 use mathlib.Core.Path.{_≡_}
-use mathlib.Core.Logic.{_≢_}
 use mathlib.Core.Bool.{true}
-use mathlib.Core.List.{List}
+use mathlib.Core.List.{List, _++_}
 use lib.Bits.{bitOr}
-use lib.ListN.{length, getD, take}
-use Rattle.cells.specs.declared.Window.{Window}
-use Rattle.code.specs.Cells.{value, sum, opened, sound, stored, turned}
-use Rattle.code.specs.Field.{zeros}
-use Rattle.code.specs.Lists.{Upto}
+use lib.ListN.{length, replicate}
+use Rattle.code.specs.Cells.{place, wit, value, opened, size, sound, stored, turned}
+use Rattle.words.specs.Words.{wordGroups, frontGroups, Tidy}
 
--- the first h groups, at most 256 of 1 to 4 wits, lie in the bytes
-pub record Held (m h : ℕ) (bytes : List ℕ) : Type 0 where
-  pub some : 0 < m
-  pub most : m ≤ 4
+-- the number that the eight wits of a byte make; and the byte that the eight bits of a number make
+unfoldable pub octet : ℕ → ℕ → ℕ
+octet order b = value (λ k. b / 2 ^ place order k % 2) 0 8
+
+-- the end of the eight bytes from byte `at` on, of n
+pub record End (n at end : ℕ) : Type 0 where
+  pub some : at < end
+  pub inside : end ≤ n
+  pub near : end ≤ at + 8
+  pub last : end < at + 8 → n ≤ end
+
+-- the byte `at` of n, or one before it that has eight bytes from there on
+pub record Start (n at start : ℕ) : Type 0 where
+  pub before : start ≤ at
+  pub inside : start + 8 ≤ n
+  pub near : at < start + 8
+  pub last : start < at → start + 8 ≡ n
+
+-- the n wits from wit p on are the last n bits of x now, and the others are as they were
+pub record Put (order : ℕ) (before after : List ℕ) (p n x : ℕ) : Type 0 where
+  pub long : length after ≡ length before
+  pub made : value (wit order after) p n ≡ x % 2 ^ n
+  pub front : (k : ℕ) → k < p → wit order after k ≡ wit order before k
+  pub rest : (k : ℕ) → p + n ≤ k → wit order after k ≡ wit order before k
+
+-- the bytes of x from byte `at` on that no byte of the cells is for are 0
+pub record Roomy (bytes : List ℕ) (at x : ℕ) : Type 0 where
+  pub inside : at < length bytes
+  pub short : length bytes ≤ 128
+  pub none : x % 2 ^ (8 * (at + 8 - length bytes)) ≡ 0
+
+-- a sound buffer of at least one group and at most 256, of 2 to 4 wits
+pub record Loadable (order m h : ℕ) (bytes : List ℕ) : Type 0 where
+  pub low : 2 ≤ m
+  pub high : m ≤ 4
+  pub some : 0 < h
   pub few : h ≤ 256
-  pub inside : m * h ≤ 8 * length bytes
-
--- setting wit w where b is 1 makes the wits g of the wits f, and turns r of them
-pub record Turned (f g : ℕ → ℕ) (w b r : ℕ) : Type 0 where
-  pub here : g w ≡ max (f w) b
-  pub kept : (k : ℕ) → k ≢ w → g k ≡ f k
-  pub count : f w + r ≡ g w
-  pub one : r ≤ 1
-
--- setting the n wits from w on where v has a 1 makes the wits g of the wits f, and turns r of them
-pub record Raised (f g : ℕ → ℕ) (w n v r : ℕ) : Type 0 where
-  pub made : value g w n ≡ bitOr (value f w n) v
-  pub before : (k : ℕ) → k < w → g k ≡ f k
-  pub beyond : (k : ℕ) → w + n ≤ k → g k ≡ f k
-  pub count : (k : ℕ) → w + n ≤ k → sum f k + r ≡ sum g k
-  pub few : r ≤ n
-
--- the wit that a window starts at, and that its last `have` bits are the wits from there to its next byte
-abbrev pub startsAt : Window → ℕ
-startsAt s = 8 * (s .next) - s .have
-
-pub record Ahead (f : ℕ → ℕ) (s : Window) : Type 0 where
-  pub few : s .have < 12
-  pub within : s .have ≤ 8 * (s .next)
-  pub made : s .bits % 2 ^ (s .have) ≡ value f (startsAt s) (s .have)
-
--- the window t starts where s does, and has m wits at least
-pub record Refilled (f : ℕ → ℕ) (m : ℕ) (s t : Window) : Type 0 where
-  pub ahead : Ahead f t
-  pub start : startsAt t ≡ startsAt s
-  pub enough : m ≤ t .have
-
--- r is 1 where x is y, and else 0
-pub record Same (x y r : ℕ) : Type 0 where
-  pub yes : x ≡ y → r ≡ 1
-  pub no : x ≢ y → r ≡ 0
-  pub one : r ≤ 1
-
--- the first h bytes of out are the groups gs, of which r are zero
-pub record Spread (gs : List ℕ) (h : ℕ) (out : List ℕ) (r : ℕ) : Type 0 where
-  pub front : take h out ≡ gs
-  pub none : r ≡ zeros gs
-
--- the front of out, r bytes long, is the list xs
-pub record Collected (xs out : List ℕ) (r : ℕ) : Type 0 where
-  pub front : take r out ≡ xs
-  pub count : r ≡ length xs
-  pub inside : r ≤ length out
-
--- r is what becomes of a zero group that has z zero groups before it. 01, Writing: "while more than h_(i+1) zero groups remain, the leftmost zero group is erased; then the
--- pattern is set": the first `spare` are set to e, all ones, and the others to the pattern's numbers, in order
-pub record Due (e spare : ℕ) (ps : List ℕ) (z r : ℕ) : Type 0 where
-  pub left : z < spare → r ≡ e
-  pub next : spare ≤ z → z - spare < length ps → r ≡ getD ps (z - spare) 0
-  pub past : spare ≤ z → length ps ≤ z - spare → r ≡ 0
-
--- a sound buffer and its groups, all ones of m bits, and a pattern of numbers of m bits
-pub record Rewritable (order m h e : ℕ) (bytes groups pattern : List ℕ) : Type 0 where
-  pub held : Held m h bytes
   pub fit : sound order m h bytes ≡ true
-  pub room : h ≤ length groups
-  pub given : take h groups ≡ opened order m h bytes
-  pub full : e ≡ 2 ^ m - 1
-  pub small : Upto e pattern
+
+-- the groups of the first r words are the buffer's, and then groups of all ones
+pub record Loaded (order m h : ℕ) (bytes words : List ℕ) (r : ℕ) : Type 0 where
+  pub long : length words ≡ 16
+  pub some : 0 < r
+  pub few : r ≤ 16
+  pub room : h ≤ wordGroups m * r
+  pub tight : wordGroups m * (r - 1) < h
+  pub tidy : Tidy m r words
+  pub made : frontGroups m r words ≡ opened order m h bytes ++ replicate (wordGroups m * r - h) (2 ^ m - 1)
+
+-- a buffer for at least one group and at most 256, of 2 to 4 wits
+pub record Storable (m h : ℕ) (bytes : List ℕ) : Type 0 where
+  pub low : 2 ≤ m
+  pub high : m ≤ 4
+  pub some : 0 < h
+  pub few : h ≤ 256
+  pub fit : length bytes ≡ size m h
+
+-- the word w without its last d bits, and with the last c bits of the old behind it
+abbrev pub blended : ℕ → ℕ → ℕ → ℕ → ℕ
+blended w d old c = bitOr (w / 2 ^ d * 2 ^ (d + c) % 2 ^ 64) (old % 2 ^ c)
+
+-- a word of so many bytes from byte `at` on, whose last d bits are at least those that no byte of the cells is for
+pub record Swappable (bytes : List ℕ) (at size d : ℕ) : Type 0 where
+  pub inside : at < length bytes
+  pub short : length bytes ≤ 128
+  pub most : size ≤ 8
+  pub room : d < 8 * size
+  pub over : 8 * (at + size - length bytes) ≤ d
+
+-- the n wits from wit p on are those of x, without its last d bits and what is above, and r wits were turned from 0 to 1
+pub record Swapped (order : ℕ) (before after : List ℕ) (p n d x r : ℕ) : Type 0 where
+  pub done : Put order before after p n (x / 2 ^ d * 2 ^ d)
+  pub count : r ≡ turned order before after
+  pub few : r ≤ 64
 
 -- the bytes after hold the groups gs, and r wits were turned from 0 to 1
-pub record Rewritten (order m : ℕ) (gs before after : List ℕ) (r : ℕ) : Type 0 where
+pub record Stored (order m : ℕ) (gs before after : List ℕ) (r : ℕ) : Type 0 where
   pub bytes : after ≡ stored order m gs
   pub count : r ≡ turned order before after

@@ -1,9 +1,11 @@
-// Wits and groups in lent bytes: reading them, and rewriting a field's groups with a count of the wits turned.
+// A field's cells between lent bytes and words of groups.
 ghost use mathlib.Core.Path.{_≡_};
-ghost use Prim.Native.Nat.{_+_, _*_, _-_, _^_, _%_, _<_, _≤_};
+ghost use Prim.Native.Nat.{_+_, _*_, _-_, _^_, _/_, _%_, _<_, _≤_};
 ghost use lib.ListN.{length, take};
+ghost use lib.Bits as Bits;
+ghost use lib.Count as Count;
 ghost use Rattle.code.specs.Cells as Code;
-ghost use Rattle.code.specs.Field as Field;
+ghost use Rattle.words.specs.Words as Words;
 ghost use Rattle.cells.specs.Cells as Cells;
 
 fn wide(x: u8) -> u64
@@ -12,96 +14,29 @@ fn wide(x: u8) -> u64
     x as u64
 }
 
-// The bit of its byte that wit w takes.
-fn place(order: u64, w: usize) -> usize
-    ensures { λ r. ⌜ (r ≡ Code.place order w) × (r < 8) ⌝ }
+// A byte with its bits the other way round.
+fn mirror(x: u64) -> u64
+    requires { ⌜ x < 256 ⌝ }
+    ensures { λ r. ⌜ (r ≡ Cells.octet 1 x) × (r < 256) ⌝ }
 {
-    if order == 0 { 7 - w % 8 } else { w % 8 }
+    let high = x % 2 * 128 + x / 2 % 2 * 64 + x / 4 % 2 * 32 + x / 8 % 2 * 16;
+    high + x / 16 % 2 * 8 + x / 32 % 2 * 4 + x / 64 % 2 * 2 + x / 128 % 2
 }
 
-fn wit(cells: &[u8], order: u64, w: usize) -> u64
-    requires { ⌜ w < 8 * length (now cells) ⌝ }
-    ensures { λ r. ⌜ (r ≡ Code.wit order (now (cells .entry)) w) × (r < 2) ⌝ }
+// The number that the eight wits of a byte make; and the byte of such a number.
+fn octet(order: u64, x: u64) -> u64
+    requires { ⌜ x < 256 ⌝ }
+    ensures { λ r. ⌜ (r ≡ Cells.octet order x) × (r < 256) ⌝ }
 {
-    (wide(cells[w / 8]) >> place(order, w)) % 2
+    if order == 0 { x } else { mirror(x) }
 }
 
-// Sets wit w where b is 1, and says how many wits that turned.
-fn turn(cells: &mut [u8], order: u64, w: usize, b: u64) -> u64
-    requires { ⌜ (w < 8 * length (now cells)) × (b < 2) ⌝ }
-    ensures { λ r. ⌜ Cells.Turned (Code.wit order (now (cells .entry))) (Code.wit order (now (cells .exit))) w b r ⌝ }
+// The last n bits of x.
+fn last_bits(x: u64, n: usize) -> u64
+    requires { ⌜ n < 64 ⌝ }
+    ensures { λ r. ⌜ r ≡ x % 2 ^ n ⌝ }
 {
-    if b <= wit(cells, order, w) {
-        return 0;
-    }
-    cells[w / 8] = cells[w / 8] | (1u8 << place(order, w));
-    1
-}
-
-// The number that the n wits from w on make, wit by wit.
-fn value(cells: &[u8], order: u64, w: usize, n: usize) -> u64
-    requires { ⌜ (w + n ≤ 8 * length (now cells)) × (w + n < 2 ^ 64) × (n ≤ 8) ⌝ }
-    ensures { λ r. ⌜ (r ≡ Code.value (Code.wit order (now (cells .entry))) w n) × (r < 256) ⌝ }
-{
-    let mut v: u64 = 0;
-    let mut i = 0;
-    while i < n {
-        v = 2 * v + wit(cells, order, w + i);
-        i += 1;
-    }
-    v
-}
-
-// The number that the eight wits of byte i make.
-fn octet(cells: &[u8], order: u64, i: usize) -> u64
-    requires { ⌜ (i < length (now cells)) × (i < 256) ⌝ }
-    ensures { λ r. ⌜ (r ≡ Code.value (Code.wit order (now (cells .entry))) (8 * i) 8) × (r < 256) ⌝ }
-{
-    if order == 0 {
-        return wide(cells[i]);
-    }
-    value(cells, order, 8 * i, 8)
-}
-
-// The last `have` of the bits are the wits before byte `next` that are still to be read.
-struct Window {
-    bits: u64,
-    have: usize,
-    next: usize,
-}
-
-// Takes in a byte where fewer than m wits are left.
-fn refill(cells: &[u8], order: u64, m: usize, s: Window) -> Window
-    requires { ⌜ (Cells.Ahead (Code.wit order (now cells)) s) × (m ≤ 4) × (Cells.startsAt s + m ≤ 8 * length (now cells)) × (Cells.startsAt s ≤ 1020) ⌝ }
-    ensures { λ r. ⌜ Cells.Refilled (Code.wit order (now (cells .entry))) m s r ⌝ }
-{
-    if m <= s.have {
-        return s;
-    }
-    let bits = s.bits % 8 * 256 + octet(cells, order, s.next);
-    Window {
-        bits,
-        have: s.have + 8,
-        next: s.next + 1,
-    }
-}
-
-// Sets the wits of group j, which is x, where v has a 1, and says how many wits that turned.
-fn raise(cells: &mut [u8], order: u64, m: usize, j: usize, x: u64, v: u64) -> u64
-    requires { ⌜ (Cells.Held m (j + 1) (now cells)) × (x ≡ Code.group m (Code.wit order (now cells)) j) × (v < 2 ^ m) ⌝ }
-    ensures { λ r. ⌜ Cells.Raised (Code.wit order (now (cells .entry))) (Code.wit order (now (cells .exit))) (m * j) m v r ⌝ }
-{
-    if x == v {
-        return 0;
-    }
-    let w = m * j;
-    let mut n: u64 = 0;
-    let mut i = 0;
-    while i < m {
-        n += turn(cells, order, w + i, (v >> (m - 1 - i)) % 2);
-        i += 1;
-    }
-    n
+    x % (1 << n)
 }
 
 // Whether the bytes are as many as h groups of m wits take, and the bits left over are 0.
@@ -113,103 +48,296 @@ pub fn is_sound(cells: &[u8], order: u64, m: usize, h: usize) -> bool
     if cells.len() != (w + 7) / 8 {
         return false;
     }
-    value(cells, order, w, 8 * cells.len() - w) == 0
-}
-
-// 1 where x is y, and else 0.
-fn same(x: u64, y: u64) -> usize
-    ensures { λ r. ⌜ Cells.Same x y r ⌝ }
-{
-    if x == y { 1 } else { 0 }
-}
-
-// The last n bits of x.
-fn last(x: u64, n: usize) -> u64
-    requires { ⌜ n ≤ 8 ⌝ }
-    ensures { λ r. ⌜ (r ≡ x % 2 ^ n) × (r < 256) ⌝ }
-{
-    x % (1 << n)
-}
-
-// Stores the first h groups at the front of out, and says how many of them are zero.
-pub fn spread(cells: &[u8], order: u64, m: usize, h: usize, out: &mut [u8]) -> usize
-    requires { ⌜ (Cells.Held m h (now cells)) × (h ≤ length (now out)) ⌝ }
-    ensures { λ r. ⌜ Cells.Spread (Code.opened order m h (now (cells .entry))) h (now (out .exit)) r ⌝ }
-{
-    let mut s = Window {
-        bits: 0,
-        have: 0,
-        next: 0,
-    };
-    let mut n: usize = 0;
-    let mut j = 0;
-    while j < h {
-        s = refill(cells, order, m, s);
-        s.have -= m;
-        let x = last(s.bits >> s.have, m);
-        out[j] = x as u8;
-        n += same(x, 0);
-        j += 1;
+    let over = 8 * cells.len() - w;
+    if over == 0 {
+        return true;
     }
-    n
+    last_bits(octet(order, wide(cells[cells.len() - 1])), over) == 0
 }
 
-// Stores those of the first h groups that are not e at the front of out, in order, and says how many they are: all of them where e is above every value.
-pub fn collect(groups: &[u8], h: usize, e: u64, out: &mut [u8]) -> usize
-    requires { ⌜ (h ≤ length (now groups)) × (h ≤ length (now out)) ⌝ }
-    ensures { λ r. ⌜ Cells.Collected (Field.unerased e (take h (now (groups .entry)))) (now (out .exit)) r ⌝ }
+// Four and eight bytes from byte i on, with the high bit first. Four are one sum, which is compiled to one load.
+fn four(cells: &[u8], i: usize) -> u64
+    requires { ⌜ (i + 4 ≤ length (now cells)) × (length (now cells) ≤ 128) ⌝ }
+    ensures { λ r. ⌜ (r ≡ Code.value (Code.wit 0 (now (cells .entry))) (8 * i) 32) × (r < 2 ^ 32) ⌝ }
 {
-    let mut n: usize = 0;
-    let mut j = 0;
-    while j < h {
-        out[n] = groups[j];
-        n += 1 - same(wide(groups[j]), e);
-        j += 1;
-    }
-    n
+    wide(cells[i]) * 16777216
+        + wide(cells[i + 1]) * 65536
+        + wide(cells[i + 2]) * 256
+        + wide(cells[i + 3])
 }
 
-// What becomes of a zero group that has z zero groups before it.
-fn due(z: usize, e: u64, spare: usize, pattern: &[u8]) -> u64
-    ensures { λ r. ⌜ Cells.Due e spare (now (pattern .entry)) z r ⌝ }
+fn eight(cells: &[u8], i: usize) -> u64
+    requires { ⌜ (i + 8 ≤ length (now cells)) × (length (now cells) ≤ 128) ⌝ }
+    ensures { λ r. ⌜ r ≡ Code.value (Code.wit 0 (now (cells .entry))) (8 * i) 64 ⌝ }
 {
-    if z < spare {
-        return e;
-    }
-    if pattern.len() <= z - spare {
-        return 0;
-    }
-    wide(pattern[z - spare])
+    four(cells, i) * 4294967296 + four(cells, i + 4)
 }
 
-// Sets each of the h groups that is not zero, and the leftmost `spare` that are, to e, all ones, and the zero groups left to the pattern's numbers, in order; says how
-// many wits that turned. `groups` holds what `spread` stores for the cells.
-pub fn rewrite(
-    cells: &mut [u8],
-    order: u64,
-    m: usize,
-    h: usize,
-    groups: &[u8],
-    e: u64,
-    spare: usize,
-    pattern: &[u8],
-) -> u64
-    requires { ⌜ Cells.Rewritable order m h e (now cells) (now groups) (now pattern) ⌝ }
-    ensures { λ r. ⌜ Cells.Rewritten order m (Field.lay (Field.erase e spare (Code.opened order m h (now (cells .entry)))) (now (pattern .entry))) (now (cells .entry)) (now (cells .exit)) r ⌝ }
+// The end of the eight bytes from byte `at` on, or of the cells.
+fn end_of(cells: &[u8], at: usize) -> usize
+    requires { ⌜ (at < length (now cells)) × (length (now cells) ≤ 128) ⌝ }
+    ensures { λ r. ⌜ Cells.End (length (now (cells .entry))) at r ⌝ }
 {
-    let mut z: usize = 0;
-    let mut n: u64 = 0;
-    let mut j = 0;
-    while j < h {
-        let i = j;
-        let x = wide(groups[i]);
-        j += 1;
-        if x != 0 {
-            n += raise(cells, order, m, i, x, e);
-        } else {
-            n += raise(cells, order, m, i, x, due(z, e, spare, pattern));
-            z += 1;
+    if cells.len() < at + 8 {
+        cells.len()
+    } else {
+        at + 8
+    }
+}
+
+// The eight bytes from byte `at` on, as far as there are bytes, read one by one as a number; what is behind the last is 0.
+fn part(cells: &[u8], order: u64, at: usize) -> u64
+    requires { ⌜ (at < length (now cells)) × (length (now cells) ≤ 128) ⌝ }
+    ensures { λ r. ⌜ r ≡ Code.value (Code.wit order (now (cells .entry))) (8 * at) 64 ⌝ }
+{
+    let end = end_of(cells, at);
+    let mut x: u64 = 0;
+    let mut i = at;
+    while i < end {
+        x = x * 256 + octet(order, wide(cells[i]));
+        i += 1;
+    }
+    x << (8 * (at + 8 - end))
+}
+
+// The byte `at`, or one before it that has eight bytes from there on.
+fn start_of(cells: &[u8], at: usize) -> usize
+    requires { ⌜ (8 ≤ length (now cells)) × (at < length (now cells)) × (length (now cells) ≤ 128) ⌝ }
+    ensures { λ r. ⌜ Cells.Start (length (now (cells .entry))) at r ⌝ }
+{
+    if at + 8 <= cells.len() {
+        at
+    } else {
+        cells.len() - 8
+    }
+}
+
+// The same, read at once where the cells have eight bytes: the last bytes as part of the last eight.
+fn ahead(cells: &[u8], order: u64, at: usize) -> u64
+    requires { ⌜ (at < length (now cells)) × (length (now cells) ≤ 128) ⌝ }
+    ensures { λ r. ⌜ r ≡ Code.value (Code.wit order (now (cells .entry))) (8 * at) 64 ⌝ }
+{
+    if order == 0 {
+        if 8 <= cells.len() {
+            let start = start_of(cells, at);
+            return eight(cells, start) << (8 * (at - start));
         }
     }
-    n
+    part(cells, order, at)
+}
+
+// The bytes of a word: as many as its groups fill.
+fn span(m: usize) -> usize
+    ensures { λ r. ⌜ r ≡ Words.wordBytes m ⌝ }
+{
+    if m == 3 { 6 } else { 8 }
+}
+
+// n ones.
+fn ones_below(n: usize) -> u64
+    requires { ⌜ n < 64 ⌝ }
+    ensures { λ r. ⌜ r ≡ 2 ^ n - 1 ⌝ }
+{
+    (1 << n) - 1
+}
+
+// The word of so many bytes from byte `at` on.
+fn any_word(cells: &[u8], order: u64, at: usize, size: usize) -> u64
+    requires { ⌜ (at < length (now cells)) × (length (now cells) ≤ 128) × (6 ≤ size) × (size ≤ 8) ⌝ }
+    ensures { λ r. ⌜ r ≡ Code.value (Code.wit order (now (cells .entry))) (8 * at) (8 * size) ⌝ }
+{
+    ahead(cells, order, at) >> (64 - 8 * size)
+}
+
+// The same for the loop: a whole word, most of them read at once.
+fn word(cells: &[u8], order: u64, at: usize, size: usize) -> u64
+    requires { ⌜ (at + size ≤ length (now cells)) × (length (now cells) ≤ 128) × (6 ≤ size) × (size ≤ 8) ⌝ }
+    ensures { λ r. ⌜ r ≡ Code.value (Code.wit order (now (cells .entry))) (8 * at) (8 * size) ⌝ }
+{
+    if order == 0 {
+        if size == 8 {
+            return eight(cells, at);
+        }
+        if at + 8 <= cells.len() {
+            return eight(cells, at) >> (64 - 8 * size);
+        }
+    }
+    any_word(cells, order, at, size)
+}
+
+// The cells of a field as words, with ones behind the field in the last; says how many words.
+pub fn load(cells: &[u8], order: u64, m: usize, h: usize, words: &mut [u64; 16]) -> usize
+    requires { ⌜ (Cells.Loadable order m h (now cells)) × (length (now words) ≡ 16) ⌝ }
+    ensures { λ r. ⌜ Cells.Loaded order m h (now (cells .entry)) (now (words .exit)) r ⌝ }
+{
+    let size = span(m);
+    let mut i = 0;
+    let mut at = 0;
+    while at + size < cells.len() {
+        words[i] = word(cells, order, at, size);
+        at += size;
+        i += 1;
+    }
+    words[i] = any_word(cells, order, at, size) | ones_below(8 * (at + size) - m * h);
+    i + 1
+}
+
+// Puts the last byte of x at byte i; and the last two, four and eight from byte i on, with the high bit first. Eight are compiled to one store.
+fn put_one(cells: &mut [u8], order: u64, i: usize, x: u64)
+    requires { ⌜ i < length (now cells) ⌝ }
+    ensures { λ r. ⌜ Cells.Put order (now (cells .entry)) (now (cells .exit)) (8 * i) 8 x ⌝ }
+{
+    cells[i] = octet(order, x % 256) as u8;
+}
+
+fn put_two(cells: &mut [u8], i: usize, x: u64)
+    requires { ⌜ (i + 2 ≤ length (now cells)) × (length (now cells) ≤ 128) ⌝ }
+    ensures { λ r. ⌜ Cells.Put 0 (now (cells .entry)) (now (cells .exit)) (8 * i) 16 x ⌝ }
+{
+    put_one(cells, 0, i, x >> 8);
+    put_one(cells, 0, i + 1, x);
+}
+
+fn put_four(cells: &mut [u8], i: usize, x: u64)
+    requires { ⌜ (i + 4 ≤ length (now cells)) × (length (now cells) ≤ 128) ⌝ }
+    ensures { λ r. ⌜ Cells.Put 0 (now (cells .entry)) (now (cells .exit)) (8 * i) 32 x ⌝ }
+{
+    put_two(cells, i, x >> 16);
+    put_two(cells, i + 2, x);
+}
+
+fn put_eight(cells: &mut [u8], i: usize, x: u64)
+    requires { ⌜ (i + 8 ≤ length (now cells)) × (length (now cells) ≤ 128) ⌝ }
+    ensures { λ r. ⌜ Cells.Put 0 (now (cells .entry)) (now (cells .exit)) (8 * i) 64 x ⌝ }
+{
+    put_four(cells, i, x >> 32);
+    put_four(cells, i + 4, x);
+}
+
+// Puts x, eight bytes, from byte `at` on, as far as there are bytes, one by one.
+fn put_part(cells: &mut [u8], order: u64, at: usize, x: u64)
+    requires { ⌜ Cells.Roomy (now cells) at x ⌝ }
+    ensures { λ r. ⌜ Cells.Put order (now (cells .entry)) (now (cells .exit)) (8 * at) 64 x ⌝ }
+{
+    let end = end_of(cells, at);
+    let mut i = at;
+    while i < end {
+        put_one(cells, order, i, x >> (8 * (at + 7 - i)));
+        i += 1;
+    }
+}
+
+// The same at the end of the cells: the last bytes are put as part of the last eight.
+fn put_last(cells: &mut [u8], at: usize, x: u64)
+    requires { ⌜ (Cells.Roomy (now cells) at x) × (8 ≤ length (now cells)) × (length (now cells) < at + 8) ⌝ }
+    ensures { λ r. ⌜ Cells.Put 0 (now (cells .entry)) (now (cells .exit)) (8 * at) 64 x ⌝ }
+{
+    let start = cells.len() - 8;
+    let n = 8 * (cells.len() - at);
+    let y = eight(cells, start);
+    put_eight(cells, start, (y >> n << n) | (x >> (64 - n)));
+}
+
+// The same for any part of the cells, put at once where the cells have eight bytes.
+fn put_ahead(cells: &mut [u8], order: u64, at: usize, x: u64)
+    requires { ⌜ Cells.Roomy (now cells) at x ⌝ }
+    ensures { λ r. ⌜ Cells.Put order (now (cells .entry)) (now (cells .exit)) (8 * at) 64 x ⌝ }
+{
+    if order == 0 {
+        if at + 8 <= cells.len() {
+            put_eight(cells, at, x);
+            return;
+        }
+        if 8 <= cells.len() {
+            put_last(cells, at, x);
+            return;
+        }
+    }
+    put_part(cells, order, at, x);
+}
+
+// The word w of so many bytes, without its last d bits and with what is behind it as it was.
+fn blend(w: u64, d: usize, size: usize, old: u64) -> u64
+    requires { ⌜ (1 ≤ size) × (size ≤ 8) × (d < 8 * size) ⌝ }
+    ensures { λ r. ⌜ r ≡ Cells.blended w d old (64 - 8 * size) ⌝ }
+{
+    let behind = 64 - 8 * size;
+    ((w >> d) << (d + behind)) | last_bits(old, behind)
+}
+
+fn ones(x: u64) -> u64
+    ensures { λ r. ⌜ (r ≡ Count.ones x) × (r ≤ 64) ⌝ }
+{
+    u64::count_ones(x) as u64
+}
+
+// How many bits are 1 in the new word and 0 in the old.
+fn turns(new: u64, old: u64) -> u64
+    ensures { λ r. ⌜ (r ≡ Count.ones (Bits.bitOr new old - old)) × (r ≤ 64) ⌝ }
+{
+    ones((new | old) - old)
+}
+
+// Puts the word w of so many bytes, without its last d bits, from byte `at` on, and says how many wits that turned.
+fn swap(cells: &mut [u8], order: u64, at: usize, size: usize, w: u64, d: usize) -> u64
+    requires { ⌜ Cells.Swappable (now cells) at size d ⌝ }
+    ensures { λ r. ⌜ Cells.Swapped order (now (cells .entry)) (now (cells .exit)) (8 * at) (8 * size) d w r ⌝ }
+{
+    let old = ahead(cells, order, at);
+    let new = blend(w, d, size, old);
+    put_ahead(cells, order, at, new);
+    turns(new, old)
+}
+
+// The same with all bits of w and the high bit first, for a word of eight bytes, and for one with eight bytes from byte `at` on.
+fn swap_eight(cells: &mut [u8], at: usize, w: u64) -> u64
+    requires { ⌜ Cells.Swappable (now cells) at 8 0 ⌝ }
+    ensures { λ r. ⌜ Cells.Swapped 0 (now (cells .entry)) (now (cells .exit)) (8 * at) 64 0 w r ⌝ }
+{
+    let old = eight(cells, at);
+    put_eight(cells, at, w);
+    turns(w, old)
+}
+
+fn swap_fewer(cells: &mut [u8], at: usize, size: usize, w: u64) -> u64
+    requires { ⌜ (Cells.Swappable (now cells) at size 0) × (at + 8 ≤ length (now cells)) ⌝ }
+    ensures { λ r. ⌜ Cells.Swapped 0 (now (cells .entry)) (now (cells .exit)) (8 * at) (8 * size) 0 w r ⌝ }
+{
+    let old = eight(cells, at);
+    let new = blend(w, 0, size, old);
+    put_eight(cells, at, new);
+    turns(new, old)
+}
+
+// The same for the loop: a whole word, most of them read and put at once.
+fn swap_word(cells: &mut [u8], order: u64, at: usize, size: usize, w: u64) -> u64
+    requires { ⌜ Cells.Swappable (now cells) at size 0 ⌝ }
+    ensures { λ r. ⌜ Cells.Swapped order (now (cells .entry)) (now (cells .exit)) (8 * at) (8 * size) 0 w r ⌝ }
+{
+    if order == 0 {
+        if size == 8 {
+            return swap_eight(cells, at, w);
+        }
+        if at + 8 <= cells.len() {
+            return swap_fewer(cells, at, size, w);
+        }
+    }
+    swap(cells, order, at, size, w, 0)
+}
+
+// Puts the groups of the words back into the cells of a field, and says how many wits that turned.
+pub fn store(cells: &mut [u8], order: u64, m: usize, h: usize, words: &[u64; 16]) -> u64
+    requires { ⌜ (Cells.Storable m h (now cells)) × (length (now words) ≡ 16) ⌝ }
+    ensures { λ r. ⌜ Cells.Stored order m (take h (Words.allGroups m (Words.wordGroups m) (now (words .entry)))) (now (cells .entry)) (now (cells .exit)) r ⌝ }
+{
+    let size = span(m);
+    let mut n: u64 = 0;
+    let mut i = 0;
+    let mut at = 0;
+    while at + size < cells.len() {
+        n += swap_word(cells, order, at, size, words[i]);
+        at += size;
+        i += 1;
+    }
+    n + swap(cells, order, at, size, words[i], 8 * (at + size) - m * h)
 }

@@ -2,13 +2,15 @@
 use mathlib.Core.Path.{_≡_, refl, ap, _∙_}
 use mathlib.Core.Logic.{inl, inr}
 use Prim.Native.Nat.{ℕ, zero, suc, _+_, _-_, _*_, _/_, _^_, _≤_, _<_}
-use native.Mathlib.Nat.{pow-zero, pow-suc, mul-le-mul, mul-le-mul-left, le-of-mul-le-mul-right, le-mul-of-pos-right, div-eq-of-eq-mul-left, mul-sub}
+use native.Mathlib.Nat.{pow-zero, pow-suc, mul-le-mul, mul-le-mul-left, mul-pos, le-of-mul-le-mul-right, le-mul-of-pos-right, mul-sub}
+use native.Mathlib.Nat.{div-eq-of-eq-mul-left, div-lt-iff-lt-mul}
 use native.Mathlib.Numerals.{add-one}
 use native.Mathlib.Omega.{arith}
 use Rattle.code.specs.Count.{choose, fewer}
-use Rattle.code.proofs.Count.{choose-up, fewer-none, fewer-step, fewer-grows}
+use Rattle.code.proofs.Count.{fewer-none, fewer-step, fewer-grows}
 use Rattle.code.proofs.Tests.{le-or-lt}
 use Rattle.counting.specs.Cap.{cap, sat}
+use Rattle.counting.specs.Falling.{falling}
 
 pub choose-above : (n k : ℕ) → n < k → choose n k ≡ 0
 unfolding choose
@@ -49,6 +51,9 @@ rises n j (suc d) h =
     let e : j + suc d ≡ suc (j + d) = omega arith in
     rw e (omega (arith, rises n j d (omega arith), rise n (j + d) (omega arith)))
 
+pub before-middle : (n j e : ℕ) → j ≤ e → e ≤ n - e → choose n j ≤ choose n e
+before-middle n j e h w = let z : j + (e - j) ≡ e = omega arith in rw z at (rises n j (e - j) (rw z w))
+
 pub choose-one : (n : ℕ) → choose n 1 ≡ n
 unfolding choose
 choose-one zero = refl
@@ -78,40 +83,55 @@ pub room : (c n j : ℕ) → (j ≡ 0 → c ≤ 1) → c < cap → n ≤ 256 →
 room c n zero z h w = omega (arith, mul-le-mul {m₁ = n - 0} {m₂ = 256} (z refl) (omega arith))
 room c n (suc j) z h w = omega (arith, mul-le-mul {n₁ = c} {m₁ = n - suc j} {n₂ = 2 ^ 56} {m₂ = 255} (omega arith) (omega arith))
 
--- c is C(n, j), below the cap, on the way to C(n, e), which is before the middle of the row
-pub record Row (n e c j : ℕ) : Type 0 where
-  pub low : j ≤ e
-  pub is : c ≡ choose n j
-  pub small : c < cap
+-- C(n, k) is n · (n − 1) · .. over k!
+abbrev pub fact : ℕ → ℕ
+fact zero = 1
+fact (suc k) = fact k * suc k
 
-pub row-begin : (n e : ℕ) → Row n e 1 0
-unfolding choose
-row-begin n e = record { low = omega arith; is = refl; small = omega arith }
+falling-choose : (n k : ℕ) → k ≤ n → falling n k ≡ choose n k * fact k
+unfolding falling choose
+falling-choose n zero h = refl
+falling-choose n (suc k) h =
+    move (falling n k) (choose n k) (choose n (suc k)) (fact k) (n - k) (suc k) (falling-choose n k (omega arith)) (absorption n k (omega arith))
+  where
+    move : (f c c′ g d i : ℕ) → f ≡ c * g → c′ * i ≡ c * d → f * d ≡ c′ * (g * i)
+    move f c c′ g d i p q = rw p (omega (arith, ap (λ (x : ℕ). x * g) q))
 
--- a turn, with q the quotient that the code makes
-module _ (n e c j : ℕ) (w : e ≤ n - e) (R : Row n e c j) where
-  pub row-room : n ≤ 256 → c * (n - j) < 2 ^ 64
-  unfolding choose
-  row-room v = room c n j one (R .small) v
-    where
-      one : j ≡ 0 → c ≤ 1
-      one z = let x : choose n j ≡ 1 = rw z in omega (arith, R .is)
+pub falling-two : (n : ℕ) → falling n 2 ≡ n * (n - 1)
+unfolding falling
+falling-two n = let e : n - 0 ≡ n = omega arith in rw e (omega arith)
 
-  module _ (q : ℕ) (l : j < e) (eq : q ≡ c * (n - j) / (j + 1)) where
-    row-next : q ≡ choose n (suc j)
-    row-next = eq ∙ rw (R .is) (next-choose n j (omega arith))
+pub falling-add : (n i j : ℕ) → falling n (i + j) ≡ falling n i * falling (n - i) j
+unfolding falling
+falling-add n i zero = let e : i + 0 ≡ i = omega arith in rw e (omega arith)
+falling-add n i (suc j) =
+    let e : i + suc j ≡ suc (i + j) = omega arith in
+    let f : n - i - j ≡ n - (i + j) = omega arith in
+    rw (e, falling, falling-add n i j, f) (omega arith)
 
-    pub row-turn : q < cap → Row n e q (j + 1)
-    row-turn h = rw add-one (record { low = l; is = row-next; small = h })
+pub falling-one : (n : ℕ) → falling n 1 ≡ n
+unfolding falling
+falling-one n = omega arith
 
-    -- at the cap before the middle, at the cap there
-    pub row-far : cap ≤ q → cap ≤ choose n e
-    row-far h =
-        let z : suc j + (e - suc j) ≡ e = omega arith in
-        omega (arith, row-next, rw z at (rises n (suc j) (e - suc j) (rw z w)))
+-- C(n, e) as p over e!, and as a product over it
+pub closed-form : (n e d p : ℕ) → e ≤ n → p ≡ falling n e → fact e ≡ d → 0 < d → p < cap * d → (p / d ≡ choose n e) × (p / d < cap)
+closed-form n e d p h r q pos l = (div-eq-of-eq-mul-left pos (r ∙ rw (falling-choose n e h, q)), div-lt-iff-lt-mul pos .1 l)
 
-  pub row-end : e ≤ j → c ≡ sat (choose n e)
-  row-end h = let z : e ≡ j = omega (arith, R .low) in rw z (omega (arith, R .is, R .small))
+pub closed-product : (n i j d p q : ℕ) → i + j ≤ n → p ≡ falling n i → q ≡ falling (n - i) j → fact (i + j) ≡ d → 0 < d → p * q < cap * d →
+    (p * q / d ≡ choose n (i + j)) × (p * q / d < cap)
+closed-product n i j d p q h ep eq ed pos l = closed-form n (i + j) d (p * q) h (rw (falling-add n i j, ep, eq)) ed pos l
+
+-- two factors a division
+pub two-more : (n j p : ℕ) → j + 2 ≤ n → p ≡ falling (n - j) 2 → choose n j * p / ((j + 1) * (j + 2)) ≡ choose n (j + 2)
+two-more n j p h e =
+    let u : n - j - 1 ≡ n - suc j = omega arith in
+    let v : j + 2 ≡ suc (suc j) = omega arith in
+    rw (e, falling-two (n - j), u, v)
+    (div-eq-of-eq-mul-left (mul-pos {m = j + 1} {n = suc (suc j)} (omega arith) (omega arith))
+    (move (choose n j) (choose n (suc j)) (choose n (suc (suc j))) (n - j) (n - suc j) (absorption n j (omega arith)) (absorption n (suc j) (omega arith))))
+  where
+    move : (c c′ c″ x y : ℕ) → c′ * suc j ≡ c * x → c″ * suc (suc j) ≡ c′ * y → c * (x * y) ≡ c″ * ((j + 1) * suc (suc j))
+    move c c′ c″ x y p q = omega (arith, ap (λ (z : ℕ). z * y) p, ap (λ (z : ℕ). z * suc j) q)
 
 -- the sum so far and its last term; j is the last written count in it
 pub record Sum (b s first k term sum j : ℕ) : Type 0 where
@@ -122,12 +142,20 @@ pub record Sum (b s first k term sum j : ℕ) : Type 0 where
   pub within : term ≤ sum
   pub small : sum < cap
 
-pub sum-begin : (b s first k term : ℕ) → first < k → term ≡ choose s first * b ^ first → term ≤ 3840 → Sum b s first k term term first
-sum-begin b s first k term h e l = record {
-  low = omega arith;
+pub term-one : (b s : ℕ) → s * b ≡ choose s 1 * b ^ 1
+term-one b s = rw (choose-one s, power-one b)
+
+pub fewer-one : (b s first : ℕ) → first ≤ 1 → fewer b s first 1 ≡ 1 - first
+unfolding choose
+fewer-one b s zero h = omega (arith, fewer-step b s 0 0 (omega arith), fewer-none b s 0 0 (omega arith), pow-zero b)
+fewer-one b s (suc first) h = omega (arith, fewer-none b s (suc first) 1 (omega arith))
+
+pub sum-begin : (b s first k : ℕ) → first ≤ 1 → 1 < k → s * b ≤ 3840 → Sum b s first k (s * b) (1 - first + s * b) 1
+sum-begin b s first k f h l = record {
+  low = f;
   more = h;
-  is-term = e;
-  is-sum = omega (arith, fewer-step b s first first (omega arith), fewer-none b s first first (omega arith));
+  is-term = term-one b s;
+  is-sum = omega (arith, fewer-step b s first 1 f, fewer-one b s first f, term-one b s);
   within = omega arith;
   small = omega arith;
 }
@@ -173,11 +201,6 @@ down n k = omega (arith, absorb n k)
 across : (n k : ℕ) → k ≤ suc n → choose (suc n) k * (suc n - k) ≡ choose n k * suc n
 across n k h = rw mul-sub (omega (arith, absorb (suc n) k, down n k))
 
-pub choose-self : (n : ℕ) → choose n n ≡ 1
-unfolding choose
-choose-self zero = refl
-choose-self (suc n) = omega (arith, choose-self n, choose-above n (suc n) (omega arith))
-
 pub choose-positive : (n k : ℕ) → k ≤ n → 0 < choose n k
 unfolding choose
 choose-positive n zero h = omega arith
@@ -185,50 +208,40 @@ choose-positive zero (suc k) h = absurd (omega arith)
 choose-positive (suc n) (suc k) h = omega (arith, choose-positive n k (omega arith))
 
 -- the steps as the code makes them
-module _ (n k c : ℕ) (p : 0 < k) (h : k ≤ n) (w : n ≤ 256) (e : c ≡ sat (choose n k)) (l : c < cap) where
-  pub lower-room : c * (n - k) < 2 ^ 64
-  lower-room = omega (arith, mul-le-mul {n₁ = c} {m₁ = n - k} {n₂ = 2 ^ 56} {m₂ = 255} (omega arith) (omega arith))
+module _ (n k c : ℕ) (p : 0 < k) (e : c ≡ choose n k) (l : c < cap) where
+  pub lower-room : n ≤ 256 → c * (n - k) < 2 ^ 64
+  lower-room w = omega (arith, mul-le-mul {n₁ = c} {m₁ = n - k} {n₂ = 2 ^ 56} {m₂ = 255} (omega arith) (omega arith))
 
-  pub inner-room : c * k < 2 ^ 64
-  inner-room = elim (le-or-lt k 255) [
-    | inl g ↦ omega (arith, mul-le-mul {n₁ = c} {m₁ = k} {n₂ = 2 ^ 56} {m₂ = 255} (omega arith) g)
-    | inr g ↦
-        let z : k ≡ n = omega arith in
-        let o : choose n k ≡ 1 = rw z (choose-self n) in
-        omega (arith, mul-le-mul {n₁ = c} {m₁ = k} {n₂ = 1} {m₂ = 256} (omega arith) (omega arith))
-  ]
-
-  pub lower-is : c * (n - k) / n ≡ choose (n - 1) k
-  lower-is =
-      let x : c ≡ choose n k = omega arith in
-      rw x (div-eq-of-eq-mul-left (omega arith) (at n h))
+  pub lower-is : k ≤ n → c * (n - k) / n ≡ choose (n - 1) k
+  lower-is h = rw e (div-eq-of-eq-mul-left (omega arith) (at n h))
     where
       at : (n : ℕ) → k ≤ n → choose n k * (n - k) ≡ choose (n - 1) k * n
       at zero h = absurd (omega arith)
       at (suc n) h = let u : suc n - 1 ≡ n = omega arith in rw u (across n k h)
 
-  pub inner-is : c * k / n ≡ choose (n - 1) (k - 1)
-  inner-is =
-      let x : c ≡ choose n k = omega arith in
-      rw x (div-eq-of-eq-mul-left (omega arith) (at n k p h))
+  pub inner-room : k ≤ suc n → n ≤ 255 → c * k < 2 ^ 64
+  inner-room h w = elim (le-or-lt k 255) [
+    | inl g ↦ omega (arith, mul-le-mul {n₁ = c} {m₁ = k} {n₂ = 2 ^ 56} {m₂ = 255} (omega arith) g)
+    | inr g ↦ omega (arith, mul-le-mul {n₁ = c} {m₁ = k} {n₂ = 0} {m₂ = 256} (omega (arith, choose-above n k (omega arith))) (omega arith))
+  ]
+
+  pub inner-is : 0 < n → c * k / n ≡ choose (n - 1) (k - 1)
+  inner-is h = rw e (div-eq-of-eq-mul-left h (at n k h p))
     where
-      at : (n k : ℕ) → 0 < k → k ≤ n → choose n k * k ≡ choose (n - 1) (k - 1) * n
-      at zero k p h = absurd (omega arith)
-      at (suc n) zero p h = absurd (omega arith)
-      at (suc n) (suc k) p h =
+      at : (n k : ℕ) → 0 < n → 0 < k → choose n k * k ≡ choose (n - 1) (k - 1) * n
+      at zero k h p = absurd (omega arith)
+      at (suc n) zero h p = absurd (omega arith)
+      at (suc n) (suc k) h p =
           let u : suc n - 1 ≡ n = omega arith in
           let v : suc k - 1 ≡ k = omega arith in
           rw (u, v) (down n k)
 
--- a binomial in a row above is no larger
-pub lower-small : (n k : ℕ) → choose (n - 1) k ≤ choose n k
-lower-small n k = choose-up (n - 1) n k (omega arith)
-
-pub inner-small : (n k : ℕ) → 0 < k → k ≤ n → choose (n - 1) (k - 1) ≤ choose n k
+-- a binomial of the row above is no larger
+pub inner-small : (n k : ℕ) → 0 < n → 0 < k → choose (n - 1) (k - 1) ≤ choose n k
 unfolding choose
-inner-small zero k p h = absurd (omega arith)
-inner-small (suc n) zero p h = absurd (omega arith)
-inner-small (suc n) (suc k) p h =
+inner-small zero k h p = absurd (omega arith)
+inner-small (suc n) zero h p = absurd (omega arith)
+inner-small (suc n) (suc k) h p =
     let u : suc n - 1 ≡ n = omega arith in
     let v : suc k - 1 ≡ k = omega arith in
     rw (u, v) (omega arith)

@@ -1,12 +1,16 @@
 // Binomials and sums of patterns with no table. A value at or above 2^56 + 1 is given as 2^56 + 1.
 ghost use mathlib.Core.Path.{_≡_};
-ghost use Prim.Native.Nat.{suc, _-_, _*_, _^_, _<_, _≤_};
+ghost use Prim.Native.Nat.{suc, _-_, _*_, _/_, _^_, _<_, _≤_};
 ghost use Rattle.code.specs.Count.{choose, fewer};
 ghost use Rattle.counting.specs.Cap.{cap, sat};
+ghost use Rattle.counting.specs.Falling.{falling};
 
 pub const CAP: u64 = 0x0100_0000_0000_0001;
 
-// C(n, k). C(n, j + 1) is C(n, j) · (n − j) / (j + 1), and no binomial on the way to the nearer half is larger.
+// A binomial below it takes two factors more before it is divided.
+const WIDE: u64 = 0x0001_0000_0000_0000;
+
+// C(n, k). No binomial on the way to the nearer half is larger.
 pub fn binomial(n: u64, k: u64) -> u64
     requires { ⌜ n ≤ 256 ⌝ }
     ensures { λ r. ⌜ r ≡ sat (choose n k) ⌝ }
@@ -14,50 +18,103 @@ pub fn binomial(n: u64, k: u64) -> u64
     if n < k {
         return 0;
     }
+    if k < 9 {
+        return closed(n, k);
+    }
     if n - k < k {
         return half(n, n - k);
     }
     half(n, k)
 }
 
-// C(n, e), where e is at most half of n.
+// C(n, e), where e is at most half of n: two factors a division, and one where that might not fit.
 fn half(n: u64, e: u64) -> u64
     requires { ⌜ (n ≤ 256) × (e ≤ n - e) ⌝ }
     ensures { λ r. ⌜ r ≡ sat (choose n e) ⌝ }
 {
-    let mut c: u64 = 1;
-    let mut j: u64 = 0;
+    if e < 9 {
+        return closed(n, e);
+    }
+    let mut c = closed(n, 8);
+    let mut j: u64 = 8;
+    while j + 1 < e {
+        if WIDE <= c {
+            return onward(n, e, c, j);
+        }
+        c = c * pair(n - j) / ((j + 1) * (j + 2));
+        j += 2;
+    }
+    onward(n, e, c, j)
+}
+
+// C(n, e) from c = C(n, j): C(n, j + 1) is C(n, j) · (n − j) / (j + 1).
+fn onward(n: u64, e: u64, c: u64, j: u64) -> u64
+    requires { ⌜ (n ≤ 256) × (e ≤ n - e) × (0 < j) × (j ≤ e) × (c ≡ choose n j) ⌝ }
+    ensures { λ r. ⌜ r ≡ sat (choose n e) ⌝ }
+{
+    let mut c = c;
+    let mut j = j;
     while j < e {
-        c = c * (n - j) / (j + 1);
         if CAP <= c {
             return CAP;
         }
+        c = c * (n - j) / (j + 1);
         j += 1;
     }
-    c
+    clip(c)
 }
 
-// The term at j = first, which is 0 or 1.
-pub fn opening(b: u64, first: u64, s: u64) -> u64
-    requires { ⌜ (b ≤ 15) × (first ≤ 1) × (s ≤ 256) ⌝ }
-    ensures { λ r. ⌜ (r ≡ choose s first * b ^ first) × (r ≤ 3840) ⌝ }
+// C(n, e) in closed form: n · (n − 1) · .. over e!. A product of eight factors fits 64 bits, and a division by a constant costs little.
+fn closed(n: u64, e: u64) -> u64
+    requires { ⌜ (n ≤ 256) × (e ≤ n) × (e ≤ 8) ⌝ }
+    ensures { λ r. ⌜ (r ≡ choose n e) × (r < cap) ⌝ }
 {
-    if first == 0 {
-        return 1;
+    if e < 4 {
+        return closed_few(n, e);
     }
-    s * b
+    closed_many(n, e)
 }
 
-// The term at j + 1, from that at j: C(s, j + 1) · b^(j + 1).
-pub fn next_term(term: u64, b: u64, s: u64, j: u64) -> u64
-    requires { ⌜ (0 < b) × (b ≤ 15) × (s ≤ 256) × (j < s) × (term < cap) × (term ≡ choose s j * b ^ j) ⌝ }
-    ensures { λ r. ⌜ r ≡ sat (choose s (suc j) * b ^ suc j) ⌝ }
+fn closed_few(n: u64, e: u64) -> u64
+    requires { ⌜ (n ≤ 256) × (e ≤ n) × (e ≤ 3) ⌝ }
+    ensures { λ r. ⌜ (r ≡ choose n e) × (r < cap) ⌝ }
 {
-    let q = term * (s - j) / (j + 1);
-    if CAP <= q {
-        return CAP;
+    match e {
+        0 => 1,
+        1 => n,
+        2 => pair(n) / 2,
+        _ => pair(n) * (n - 2) / 6,
     }
-    times(q, b)
+}
+
+fn closed_many(n: u64, e: u64) -> u64
+    requires { ⌜ (n ≤ 256) × (e ≤ n) × (4 ≤ e) × (e ≤ 8) ⌝ }
+    ensures { λ r. ⌜ (r ≡ choose n e) × (r < cap) ⌝ }
+{
+    let f = four(n);
+    match e {
+        4 => f / 24,
+        5 => f * (n - 4) / 120,
+        6 => f * pair(n - 4) / 720,
+        7 => f * (pair(n - 4) * (n - 6)) / 5040,
+        _ => f * four(n - 4) / 40320,
+    }
+}
+
+// n · (n − 1)
+fn pair(n: u64) -> u64
+    requires { ⌜ (1 ≤ n) × (n ≤ 256) ⌝ }
+    ensures { λ r. ⌜ (r ≡ falling n 2) × (r ≤ 65280) ⌝ }
+{
+    n * (n - 1)
+}
+
+// n · (n − 1) · (n − 2) · (n − 3)
+fn four(n: u64) -> u64
+    requires { ⌜ (3 ≤ n) × (n ≤ 256) ⌝ }
+    ensures { λ r. ⌜ (r ≡ falling n 4) × (r < 2 ^ 32) ⌝ }
+{
+    pair(n) * pair(n - 2)
 }
 
 // The sum over j = first .. k − 1 of C(s, j) · b^j.
@@ -68,11 +125,14 @@ pub fn fewer(b: u64, first: u64, s: u64, k: u64) -> u64
     if k <= first {
         return 0;
     }
-    let mut term = opening(b, first, s);
-    let mut sum = term;
-    let mut j = first;
+    if k == 1 {
+        return 1;
+    }
+    let mut term = s * b;
+    let mut sum = 1 - first + term;
+    let mut j: u64 = 1;
     while j + 1 < k {
-        let q = term * (s - j) / (j + 1);
+        let q = divide(term * (s - j), j + 1);
         if CAP <= q {
             return CAP;
         }
@@ -86,51 +146,56 @@ pub fn fewer(b: u64, first: u64, s: u64, k: u64) -> u64
     sum
 }
 
+// The term at j + 1, from that at j: C(s, j + 1) · b^(j + 1).
+pub fn next_term(term: u64, b: u64, s: u64, j: u64) -> u64
+    requires { ⌜ (0 < b) × (b ≤ 15) × (s ≤ 256) × (j < s) × (term < cap) × (term ≡ choose s j * b ^ j) ⌝ }
+    ensures { λ r. ⌜ r ≡ sat (choose s (suc j) * b ^ suc j) ⌝ }
+{
+    let q = divide(term * (s - j), j + 1);
+    if CAP <= q {
+        return CAP;
+    }
+    clip(q * b)
+}
+
+// x / d. A division by a constant costs little.
+fn divide(x: u64, d: u64) -> u64
+    requires { ⌜ 0 < d ⌝ }
+    ensures { λ r. ⌜ r ≡ x / d ⌝ }
+{
+    match d {
+        2 => x / 2,
+        3 => x / 3,
+        4 => x / 4,
+        5 => x / 5,
+        6 => x / 6,
+        7 => x / 7,
+        8 => x / 8,
+        9 => x / 9,
+        10 => x / 10,
+        11 => x / 11,
+        12 => x / 12,
+        13 => x / 13,
+        14 => x / 14,
+        15 => x / 15,
+        _ => x / d,
+    }
+}
+
 // C(n − 1, k), from c = C(n, k).
 pub fn lower(c: u64, n: u64, k: u64) -> u64
-    requires { ⌜ (0 < k) × (k ≤ n) × (n ≤ 256) × (c ≡ sat (choose n k)) ⌝ }
-    ensures { λ r. ⌜ r ≡ sat (choose (n - 1) k) ⌝ }
+    requires { ⌜ (0 < k) × (k ≤ n) × (n ≤ 256) × (c < cap) × (c ≡ choose n k) ⌝ }
+    ensures { λ r. ⌜ r ≡ choose (n - 1) k ⌝ }
 {
-    if CAP <= c {
-        return binomial(n - 1, k);
-    }
     c * (n - k) / n
 }
 
 // C(n − 1, k − 1), from c = C(n, k).
 pub fn inner(c: u64, n: u64, k: u64) -> u64
-    requires { ⌜ (0 < k) × (k ≤ n) × (n ≤ 256) × (c ≡ sat (choose n k)) ⌝ }
-    ensures { λ r. ⌜ r ≡ sat (choose (n - 1) (k - 1)) ⌝ }
+    requires { ⌜ (0 < k) × (k ≤ suc n) × (0 < n) × (n ≤ 255) × (c < cap) × (c ≡ choose n k) ⌝ }
+    ensures { λ r. ⌜ r ≡ choose (n - 1) (k - 1) ⌝ }
 {
-    if CAP <= c {
-        return binomial(n - 1, k - 1);
-    }
     c * k / n
-}
-
-// b^k
-pub fn power(b: u64, k: u64) -> u64
-    requires { ⌜ (0 < b) × (b ≤ 15) ⌝ }
-    ensures { λ r. ⌜ r ≡ sat (b ^ k) ⌝ }
-{
-    let mut r: u64 = 1;
-    let mut i: u64 = 0;
-    while i < k {
-        r *= b;
-        if CAP <= r {
-            return CAP;
-        }
-        i += 1;
-    }
-    r
-}
-
-// A number up to the cap by a small one: the product fits 64 bits.
-pub fn times(a: u64, b: u64) -> u64
-    requires { ⌜ (a ≤ cap) × (b ≤ 255) ⌝ }
-    ensures { λ r. ⌜ r ≡ sat (a * b) ⌝ }
-{
-    clip(a * b)
 }
 
 pub fn clip(x: u64) -> u64

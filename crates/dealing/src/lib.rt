@@ -1,143 +1,90 @@
-// Numbers told from patterns and dealt to them: document 01, "Dealing numbers to patterns". A pattern is the values of its places, leftmost first; 0 is not written.
-// e is 2^m − 1, b the number of values that a written place takes, start the least number of written places. What reaches 2^56 + 1 counts as 2^56 + 1.
+// Numbers told from patterns and dealt to them: document 01, "Dealing numbers to patterns". Of the s places of a pattern the k written ones are given,
+// leftmost first, by label and by value less 1. b is the number of values that a written place takes, start the least number of written places.
+// What reaches 2^56 + 1 counts as 2^56 + 1.
 ghost use mathlib.Core.Path.{_≡_};
-ghost use mathlib.Core.List.{[], _∷_};
-ghost use Prim.Native.Nat.{suc, _+_, _*_, _^_, _<_, _≤_, min};
-ghost use lib.ListN.{length, drop, replicate};
+ghost use Prim.Native.Nat.{ℕ, suc, _+_, _*_, _/_, _%_, _^_, _<_, _≤_};
+ghost use lib.ListN.{length, getD, take, drop, set};
 ghost use Rattle.code.specs.Count.{choose, fewer};
-ghost use Rattle.code.specs.Layout.{room};
-ghost use Rattle.code.specs.Deal.{written, rank, digits, number, laid, deal, plain, plainly};
-ghost use Rattle.code.specs.Field.{told, pattern};
+ghost use Rattle.code.specs.Deal.{deal, plain, plainly};
+ghost use Rattle.code.specs.Chosen.{ranked, patternMost, Chosen};
 ghost use Rattle.counting.specs.Cap.{cap, sat};
-ghost use Rattle.dealing.specs.Next.{Next};
+ghost use Rattle.dealing.specs.Pick.{picked, Candidate};
 
-// No range is larger.
-const TOP: u64 = 0x0100_0000_0000_0000;
+// What the arrays have room for.
+pub const PATTERN_MOST: usize = 64;
 
-// The number that the places of a generation tell, as far as TOP; `next` is the count of the generation after it, 0 for the last.
-pub fn tell(xs: &[u8], e: u64, b: u64, start: u64, next: u64) -> u64
-    requires { ⌜ (length (now xs) ≤ 256) × (0 < e) × (e ≤ 15) × (1 < b) × (b ≤ 15) × (start ≤ 1) ⌝ }
-    ensures { λ r. ⌜ r ≡ min (told e b start next (now (xs .entry))) (2 ^ 56) ⌝ }
+// "the count of patterns with fewer written places, plus rank·b^k, plus the written values less 1 read as k digits in base b". The digits are read on from
+// the rank. Where that count is at the cap the rank is not wanted, and where it is below, no more than 36 places are written.
+pub fn number(
+    labels: &[u8; PATTERN_MOST],
+    values: &[u8; PATTERN_MOST],
+    k: usize,
+    s: u64,
+    b: u64,
+    start: u64,
+) -> u64
+    requires { ⌜ (length (now labels) ≡ patternMost) × (length (now values) ≡ patternMost) ⌝ }
+    requires { ⌜ (k ≤ patternMost) × (k ≤ s) × (s ≤ 256) × (1 < b) × (b ≤ 15) × (start ≤ 1) ⌝ }
+    ensures { λ r. ⌜ r ≡ sat (fewer b s start k + (ranked (take k (now (labels .entry))) * b ^ k + plain b (take k (now (values .entry))))) ⌝ }
 {
-    if next == 0 {
-        let x = plain(xs, e);
-        if x == 0 {
-            return 0;
-        }
-        return x - 1;
-    }
-    let x = number(xs, b, start);
-    if x < TOP { x } else { TOP }
-}
-
-// The pattern of x, drawn into the blank places of a generation.
-pub fn draw(xs: &mut [u8], e: u64, b: u64, start: u64, next: u64, x: u64)
-    requires { ⌜ now xs ≡ replicate (length (now xs)) 0 ⌝ }
-    requires { ⌜ (length (now xs) ≤ 256) × (0 < e) × (e ≤ 15) × (0 < b) × (b ≤ 15) × (start ≤ 1) × (x < cap) × (x < room e b start (length (now xs)) next) ⌝ }
-    ensures { λ _. ⌜ now (xs .exit) ≡ pattern e b start (length (now (xs .entry))) next x ⌝ }
-{
-    if next == 0 {
-        plainly(xs, e, x + 1);
-    } else {
-        deal(xs, b, start, x);
-    }
-}
-
-// "the count of patterns with fewer written places, plus rank·b^k, plus the written values less 1 read as k digits in base b". Where that count is at the cap the rank is not
-// wanted, and where it is below, no more than 36 places are written.
-pub fn number(xs: &[u8], b: u64, start: u64) -> u64
-    requires { ⌜ (length (now xs) ≤ 256) × (1 < b) × (b ≤ 15) × (start ≤ 1) ⌝ }
-    ensures { λ r. ⌜ r ≡ sat (number b start (now (xs .entry))) ⌝ }
-{
-    let k = marks(xs);
-    let below = counting::fewer(b, start, xs.len() as u64, k);
+    let below = counting::fewer(b, start, s, k as u64);
     if counting::CAP <= below {
-        return below;
+        return counting::CAP;
     }
-    let r = rank_from(xs, 0, k);
-    counting::clip(below + read_digits(xs, b, r))
+    let rank = rank_from(labels, 0, k as u64);
+    if counting::CAP <= rank {
+        return counting::CAP;
+    }
+    counting::clip(below + read_on(values, k, b, rank))
 }
 
-// How many places are written.
-fn marks(xs: &[u8]) -> u64
-    requires { ⌜ length (now xs) ≤ 256 ⌝ }
-    ensures { λ r. ⌜ r ≡ written (now (xs .entry)) ⌝ }
-{
-    let mut k: u64 = 0;
-    let mut i = 0;
-    while i < xs.len() {
-        if xs[i] != 0 {
-            k += 1;
-        }
-        i += 1;
-    }
-    k
-}
-
-// "chosen labels i_1 > .. > i_k give C(i_1, k) + C(i_2, k − 1) + .. + C(i_k, 1)", for the places from `at` on, of which `left` are written.
-// Each call goes on behind the next written place, so that no more than 37 calls are open.
-fn rank_from(xs: &[u8], at: usize, left: u64) -> u64
-    requires { ⌜ (at ≤ length (now xs)) × (length (now xs) ≤ 256) × (left ≡ written (drop at (now xs))) × (left ≤ 36) ⌝ }
-    ensures { λ r. ⌜ r ≡ sat (rank (drop at (now (xs .entry)))) ⌝ }
+// "chosen labels i_1 > .. > i_k give C(i_1, k) + C(i_2, k − 1) + .. + C(i_k, 1)", for the labels from `at` on, of which `left` are left. Each binomial is at
+// most the cap, and a sum of 36 fits 64 bits.
+fn rank_from(labels: &[u8; PATTERN_MOST], at: usize, left: u64) -> u64
+    requires { ⌜ (length (now labels) ≡ patternMost) × (at + left ≤ patternMost) × (left ≤ 36) ⌝ }
+    ensures { λ r. ⌜ (sat r ≡ sat (ranked (take left (drop at (now (labels .entry)))))) × (r ≤ left * cap) ⌝ }
 {
     if left == 0 {
         return 0;
     }
-    let i = next_written(xs, at);
-    let label = xs.len() - (i + 1);
-    let c = counting::binomial(label as u64, left);
-    counting::clip(c + rank_from(xs, i + 1, left - 1))
+    counting::binomial(wide(labels[at]), left) + rank_from(labels, at + 1, left - 1)
 }
 
-// The first written place from `at` on.
-fn next_written(xs: &[u8], at: usize) -> usize
-    requires { ⌜ (at ≤ length (now xs)) × (0 < written (drop at (now xs))) ⌝ }
-    ensures { λ r. ⌜ Next (now (xs .entry)) at r ⌝ }
+// k digits in base b, read on from d, two at a time: a number below the cap and two digits fit 64 bits.
+fn read_on(values: &[u8; PATTERN_MOST], k: usize, b: u64, d: u64) -> u64
+    requires { ⌜ (length (now values) ≡ patternMost) × (k ≤ patternMost) × (0 < b) × (b ≤ 15) × (d < cap) ⌝ }
+    ensures { λ r. ⌜ r ≡ sat (d * b ^ k + plain b (take k (now (values .entry)))) ⌝ }
 {
-    let mut i = at;
-    while xs[i] == 0 {
-        i += 1;
-    }
-    i
-}
-
-// The digits of the written places, read on from d.
-fn read_digits(xs: &[u8], b: u64, d: u64) -> u64
-    requires { ⌜ (0 < b) × (b ≤ 15) × (d ≤ cap) ⌝ }
-    ensures { λ r. ⌜ r ≡ sat (d * b ^ written (now (xs .entry)) + digits b (now (xs .entry))) ⌝ }
-{
-    let mut d = d;
+    let square = b * b;
+    let mut x = d;
     let mut i = 0;
-    while i < xs.len() {
-        d = read_digit(xs[i], b, d);
-        i += 1;
+    while i + 1 < k {
+        x = x * square + two(values, i, b);
+        if counting::CAP <= x {
+            return counting::CAP;
+        }
+        i += 2;
     }
-    d
-}
-
-// The same for one place.
-fn read_digit(x: u8, b: u64, d: u64) -> u64
-    requires { ⌜ (0 < b) × (b ≤ 15) × (d ≤ cap) ⌝ }
-    ensures { λ r. ⌜ r ≡ sat (d * b ^ written (x ∷ []) + digits b (x ∷ [])) ⌝ }
-{
-    if x == 0 {
-        return d;
-    }
-    counting::clip(d * b + (x as u64 - 1))
-}
-
-// "Generation t: the h_t unerased groups, left to right, are the digits in base 2^m − 1": the number that they make.
-pub fn plain(xs: &[u8], e: u64) -> u64
-    requires { ⌜ (0 < e) × (e ≤ 15) ⌝ }
-    ensures { λ r. ⌜ r ≡ sat (plain e (now (xs .entry))) ⌝ }
-{
-    let mut x: u64 = 0;
-    let mut i = 0;
-    while i < xs.len() {
-        x = counting::clip(x * e + wide(xs[i]));
-        i += 1;
+    if i < k {
+        return counting::clip(x * b + wide(values[i]));
     }
     x
+}
+
+// Two digits in base b.
+fn two(values: &[u8; PATTERN_MOST], i: usize, b: u64) -> u64
+    requires { ⌜ (length (now values) ≡ patternMost) × (i + 1 < patternMost) × (b ≤ 15) ⌝ }
+    ensures { λ r. ⌜ (r ≡ getD (now (values .entry)) i 0 * b + getD (now (values .entry)) (i + 1) 0) × (r ≤ 4080) ⌝ }
+{
+    wide(values[i]) * b + wide(values[i + 1])
+}
+
+// "Generation t: the h_t unerased groups, left to right, are the digits in base 2^m − 1": the number that s of them make.
+pub fn plain(values: &[u8; PATTERN_MOST], s: usize, e: u64) -> u64
+    requires { ⌜ (length (now values) ≡ patternMost) × (s ≤ patternMost) × (0 < e) × (e ≤ 15) ⌝ }
+    ensures { λ r. ⌜ r ≡ sat (plain e (take s (now (values .entry)))) ⌝ }
+{
+    read_on(values, s, e, 0)
 }
 
 fn wide(x: u8) -> u64
@@ -146,69 +93,142 @@ fn wide(x: u8) -> u64
     x as u64
 }
 
-// The digits of x in base e, one to a place.
-pub fn plainly(xs: &mut [u8], e: u64, x: u64)
-    requires { ⌜ (0 < e) × (e ≤ 15) × (x < e ^ length (now xs)) ⌝ }
-    ensures { λ _. ⌜ now (xs .exit) ≡ plainly e (length (now (xs .entry))) x ⌝ }
+// What a quotient of two digits is worked out in.
+const UNIT: u64 = 0x1_0000;
+
+// The s digits of x in base e, two a division.
+pub fn plainly(values: &mut [u8; PATTERN_MOST], s: usize, e: u64, x: u64)
+    requires { ⌜ (length (now values) ≡ patternMost) × (s ≤ patternMost) × (0 < e) × (e ≤ 15) × (x < e ^ s) ⌝ }
+    ensures { λ _. ⌜ (take s (now (values .exit)) ≡ plainly e s x) × (length (now (values .exit)) ≡ patternMost) ⌝ }
 {
+    let square = e * e;
+    let part = UNIT / e + 1;
     let mut x = x;
-    let mut i = xs.len();
-    while 0 < i {
-        i -= 1;
-        xs[i] = (x % e) as u8;
-        x /= e;
+    let mut i = s;
+    while 1 < i {
+        i -= 2;
+        put_two(values, i, e, part, x % square);
+        x /= square;
+    }
+    if i == 1 {
+        values[0] = (x % e) as u8;
     }
 }
 
-// The pattern of the number n, dealt to blank places. The patterns with fewer written places are passed count by count; what is left of n is the rank and the digits.
-pub fn deal(xs: &mut [u8], b: u64, start: u64, n: u64)
-    requires { ⌜ now xs ≡ replicate (length (now xs)) 0 ⌝ }
-    requires { ⌜ (length (now xs) ≤ 256) × (0 < b) × (b ≤ 15) × (start ≤ 1) × (n < cap) × (n < fewer b (length (now xs)) start (suc (length (now xs)))) ⌝ }
-    ensures { λ _. ⌜ now (xs .exit) ≡ deal b start (length (now (xs .entry))) n ⌝ }
+// The two digits of z. For so small a number a product with the part that e is of a unit is the quotient by e.
+fn put_two(values: &mut [u8; PATTERN_MOST], i: usize, e: u64, part: u64, z: u64)
+    requires { ⌜ (length (now values) ≡ patternMost) × (i + 1 < patternMost) × (0 < e) × (e ≤ 15) × (part ≡ 65536 / e + 1) × (z < e * e) ⌝ }
+    ensures { λ _. ⌜ now (values .exit) ≡ set (set (now (values .entry)) (i + 1) (z % e)) i (z / e) ⌝ }
 {
-    let s = xs.len() as u64;
-    let mut k = start;
-    let mut power = counting::power(b, start);
-    let mut term = counting::opening(b, start, s);
-    let mut rest = n;
+    let high = z * part / UNIT;
+    values[i + 1] = (z - high * e) as u8;
+    values[i] = high as u8;
+}
+
+// How many labels are passed by at once, by a binomial of their own, before they are passed one by one.
+const STRIDE: u64 = 6;
+
+// A label and its binomial.
+struct Reach {
+    label: u64,
+    fit: u64,
+}
+
+// "The way back goes group by group, from the highest label down": the labels of k written places of rank r among s places. The last label is what is left
+// of the rank.
+fn lay(labels: &mut [u8; PATTERN_MOST], s: u64, k: u64, r: u64)
+    requires { ⌜ length (now labels) ≡ patternMost ⌝ }
+    requires { ⌜ (s ≤ 256) × (0 < k) × (k ≤ patternMost) × (r < cap) × (r < choose s k) ⌝ }
+    ensures { λ _. ⌜ (take k (now (labels .exit)) ≡ picked s k r) × (length (now (labels .exit)) ≡ patternMost) ⌝ }
+{
+    let top = settle(s, k);
+    let mut label = top.label;
+    let mut fit = top.fit;
+    let mut left = k;
+    let mut r = r;
+    let mut at: usize = 0;
+    while 1 < left {
+        let near = leap(label, fit, left, r);
+        label = near.label;
+        fit = near.fit;
+        let found = loop {
+            if fit <= r {
+                break label;
+            }
+            fit = counting::lower(fit, label, left);
+            label -= 1;
+        };
+        labels[at] = found as u8;
+        at += 1;
+        r -= fit;
+        fit = counting::inner(fit, found, left);
+        label = found - 1;
+        left -= 1;
+    }
+    labels[at] = r as u8;
+}
+
+// The highest label whose binomial is below the cap. None above it fits.
+fn settle(s: u64, k: u64) -> Reach
+    requires { ⌜ (0 < s) × (s ≤ 256) × (0 < k) ⌝ }
+    ensures { λ x. ⌜ (x .label < s) × ((r : ℕ) → r < cap → r < choose s k → Candidate k r (x .label) (x .fit)) ⌝ }
+{
+    let mut label = s - 1;
+    let mut fit = counting::binomial(label, k);
+    while counting::CAP <= fit {
+        label -= 1;
+        fit = counting::binomial(label, k);
+    }
+    Reach { label, fit }
+}
+
+// Passes labels by that do not fit, a stride at a time.
+fn leap(label: u64, fit: u64, left: u64, r: u64) -> Reach
+    requires { ⌜ (label ≤ 255) × Candidate left r label fit ⌝ }
+    ensures { λ x. ⌜ (x .label ≤ label) × Candidate left r (x .label) (x .fit) ⌝ }
+{
+    let mut label = label;
+    let mut fit = fit;
+    while STRIDE <= label {
+        let far = counting::binomial(label - STRIDE, left);
+        if far <= r {
+            break;
+        }
+        label -= STRIDE;
+        fit = far;
+    }
+    Reach { label, fit }
+}
+
+// The written places of the pattern of s places that has the number n, and how many they are. The patterns with fewer of them are passed count by count;
+// what is left of n is the rank and the digits.
+pub fn deal(
+    labels: &mut [u8; PATTERN_MOST],
+    values: &mut [u8; PATTERN_MOST],
+    s: u64,
+    b: u64,
+    start: u64,
+    n: u64,
+) -> usize
+    requires { ⌜ (length (now labels) ≡ patternMost) × (length (now values) ≡ patternMost) ⌝ }
+    requires { ⌜ (s ≤ 256) × (0 < b) × (b ≤ 15) × (start ≤ 1) × (n < cap) × (n < fewer b s start (suc s)) ⌝ }
+    ensures { λ r. ⌜ Chosen (deal b start s n) (now (labels .exit)) (now (values .exit)) r ⌝ }
+    ensures { λ r. ⌜ (r ≤ patternMost) × (length (now (labels .exit)) ≡ patternMost) × (length (now (values .exit)) ≡ patternMost) ⌝ }
+{
+    if n + start == 0 {
+        return 0;
+    }
+    let mut k: u64 = 1;
+    let mut power = b;
+    let mut term = s * b;
+    let mut rest = n + start - 1;
     while term <= rest {
         rest -= term;
         term = counting::next_term(term, b, s, k);
         power *= b;
         k += 1;
     }
-    lay(xs, b, k, power, rest / power, rest % power);
-}
-
-// "The way back goes group by group, from the highest label down": k written places of rank r and digits d, laid into blank places. Of these `free` are still to the right,
-// `left` are still to be written, and c is C(free, left).
-fn lay(xs: &mut [u8], b: u64, k: u64, power: u64, r: u64, d: u64)
-    requires { ⌜ now xs ≡ replicate (length (now xs)) 0 ⌝ }
-    requires { ⌜ (length (now xs) ≤ 256) × (0 < b) × (b ≤ 15) × (power ≡ b ^ k) × (r < cap) × (r < choose (length (now xs)) k) × (d < power) ⌝ }
-    ensures { λ _. ⌜ now (xs .exit) ≡ laid b (length (now (xs .entry))) k r d ⌝ }
-{
-    let s = xs.len();
-    let mut free = s;
-    let mut left = k;
-    let mut power = power;
-    let mut r = r;
-    let mut d = d;
-    let mut c = counting::binomial(s as u64, k);
-    while 0 < left {
-        let label = loop {
-            let fit = counting::lower(c, free as u64, left);
-            if fit <= r {
-                c = counting::inner(c, free as u64, left);
-                r -= fit;
-                break free - 1;
-            }
-            c = fit;
-            free -= 1;
-        };
-        left -= 1;
-        power /= b;
-        xs[s - 1 - label] = (d / power) as u8 + 1;
-        d %= power;
-        free = label;
-    }
+    lay(labels, s, k, rest / power);
+    plainly(values, k as usize, b, rest % power);
+    k as usize
 }

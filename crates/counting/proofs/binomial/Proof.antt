@@ -11,11 +11,15 @@ binomial-spec =
     (tie.spec
     -- returns
     (λ c. omega (arith, choose-above (c .before .args .n) (c .before .args .k) (c .if1 .taken)))
-    -- half-requires
+    -- closed-requires
     (λ c κs. search needs)
     -- returns-2
-    (λ c. let a = c .before .before .before .args in rw (symmetry (a .n) (a .k) (omega arith)) (c .half .ensures))
-    -- half-requires-2
+    (λ c. omega (arith, c .closed .ensures))
+    -- half-requires
     (λ c κs. search needs)
     -- returns-3
+    (λ c. let a = c .before .before .before .before .args in rw (symmetry (a .n) (a .k) (omega arith)) (c .half .ensures))
+    -- half-requires-2
+    (λ c κs. search needs)
+    -- returns-4
     (λ c. c .half2 .ensures))

@@ -1,14 +1,16 @@
 -- `counting::half` meets its contract. Assumes nothing.
-use mathlib.Core.Path.{refl}
-use Prim.Native.Nat.{_-_}
+use mathlib.Core.Path.{_≡_}
+use Prim.Native.Nat.{_+_, _-_, _^_, _≤_}
+use native.Mathlib.Nat.{mul-le-mul, mul-pos}
 use native.Mathlib.Omega.{arith}
 use borrow.Author.Needs.{needs}
-use Rattle.counting.proofs.Laws.{Row, row-begin, row-room, row-turn, row-far, row-end}
+use Rattle.code.specs.Count.{choose}
+use Rattle.counting.proofs.Laws.{two-more}
 use Rattle.counting.proofs.half.Statement.{statement}
 use Rattle.counting.proofs.half.Tie as tie
 
 abbrev Inv-loop : tie.InvT-loop
-Inv-loop n e c₀ j₀ c j = Row n e c j
+Inv-loop n e c₀ j₀ c j = (8 ≤ j) × (j ≤ e) × (c ≡ choose n j)
 
 abbrev μ-loop : tie.MeasureT-loop
 μ-loop n e c₀ j₀ c j = e - j
@@ -19,32 +21,48 @@ half-spec =
     (tie.spec
     Inv-loop
     μ-loop
-    -- loop-holds
-    (λ c. row-begin (c .args .n) (c .args .e))
-    -- sub-c
-    (λ c. omega arith)
-    -- mul-c
-    (λ c. let s = c .before .loop in let a = c .before .before .args in omega (arith, row-room (a .n) (a .e) (s .c) (s .j) (omega arith) (s .inv) (omega arith)))
-    -- add-c
-    (λ c. omega arith)
-    -- div-c
-    (λ c. search needs)
+    -- closed-requires
+    (λ c κs. search needs)
     -- returns
+    (λ c. omega (arith, c .closed .ensures))
+    -- closed-requires-2
+    (λ c κs. search needs)
+    -- loop-holds
+    (λ c. search needs)
+    -- add-loop
+    (λ c. search needs)
+    -- onward-requires
+    (λ c κs. search needs)
+    -- returns-2
+    (λ c. c .onward .ensures)
+    -- sub-pair
+    (λ c. omega arith)
+    -- pair-requires
+    (λ c κs. search needs)
+    -- mul-c
     (λ c.
-    let s = c .before .before .loop in
-    let a = c .before .before .before .args in
-    omega (arith, row-far (a .n) (a .e) (s .c) (s .j) (omega arith) (s .inv) _ (c .before .loop-test .taken) refl (c .if1 .taken)))
+    let s = c .before .before .before .loop in
+    omega (arith, mul-le-mul {n₁ = s .c} {m₁ = c .pair .result} {n₂ = 2 ^ 48} {m₂ = 65280} (omega arith) (omega arith)))
+    -- add-c
+    (λ c. search needs)
+    -- add-c-2
+    (λ c. search needs)
+    -- mul-c-2
+    (λ c.
+    let s = c .before .before .before .loop in
+    omega (arith, mul-le-mul {n₁ = s .j + 1} {m₁ = s .j + 2} {n₂ = 256} {m₂ = 256} (omega arith) (omega arith)))
+    -- div-c
+    (λ c. mul-pos (omega arith) (omega arith))
     -- add-j
-    (λ c. omega arith)
+    (λ c. search needs)
     -- loop-less
-    (λ c. omega arith)
+    (λ c. search needs)
     -- loop-again
     (λ c.
-    let s = c .before .before .loop in
-    let a = c .before .before .before .args in
-    row-turn (a .n) (a .e) (s .c) (s .j) (omega arith) (s .inv) _ (c .before .loop-test .taken) refl (omega arith))
-    -- returns-2
-    (λ c.
-    let s = c .before .loop in
-    let a = c .before .before .args in
-    row-end (a .n) (a .e) (s .c) (s .j) (omega arith) (s .inv) (omega arith)))
+    let s = c .before .before .before .loop in
+    let a = c .before .before .before .before .before .before .args in
+    (omega arith, omega arith, rw (s .inv .2) (two-more (a .n) (s .j) _ (omega arith) (c .pair .ensures .0))))
+    -- onward-requires-2
+    (λ c κs. search needs)
+    -- returns-3
+    (λ c. c .onward2 .ensures))

@@ -1,8 +1,7 @@
 -- `counting::next_term` meets its contract. Assumes nothing.
-use mathlib.Core.Path.{refl}
 use native.Mathlib.Omega.{arith}
 use borrow.Author.Needs.{needs}
-use Rattle.counting.proofs.Laws.{term-room, term-next, term-far}
+use Rattle.counting.proofs.Laws.{small-product, term-room, term-next, term-far}
 use Rattle.counting.proofs.next_term.Statement.{statement}
 use Rattle.counting.proofs.next_term.Tie as tie
 
@@ -10,21 +9,25 @@ pub next-term-spec : {M : Type 1} → statement M
 next-term-spec =
     tie.close
     (tie.spec
-    -- sub-q
+    -- sub-divide
     (λ c. search needs)
-    -- mul-q
+    -- mul-divide
     (λ c. omega (arith, term-room (c .args .b) (c .args .s) (c .args .j) (c .args .term) (c .pre .5) (omega arith) (omega arith)))
-    -- add-q
+    -- add-divide
     (λ c. omega arith)
-    -- div-q
-    (λ c. search needs)
+    -- divide-requires
+    (λ c κs. search needs)
     -- returns
     (λ c.
-    let s = c .before in
-    omega (arith, term-far (s .args .b) (s .args .s) (s .args .j) (s .args .term) (s .pre .5) _ (omega arith) refl (omega arith) (omega arith)))
-    -- times-requires
+    let s = c .before .before in
+    let a = s .args in
+    omega (arith, term-far (a .b) (a .s) (a .j) (a .term) (s .pre .5) _ (omega arith) (c .before .divide .ensures) (omega arith) (omega arith)))
+    -- mul-clip
+    (λ c. omega (arith, small-product 15 (c .before .divide .result) (c .before .before .args .b) (omega arith) (omega arith)))
+    -- clip-requires
     (λ c κs. search needs)
     -- returns-2
     (λ c.
-    let s = c .before .before in
-    rw (term-next (s .args .b) (s .args .s) (s .args .j) (s .args .term) (s .pre .5) _ (omega arith) refl) at (c .times .ensures)))
+    let s = c .before .before .before in
+    let a = s .args in
+    rw (term-next (a .b) (a .s) (a .j) (a .term) (s .pre .5) _ (omega arith) (c .before .before .divide .ensures)) at (c .clip .ensures)))

@@ -1,35 +1,32 @@
 -- `dealing::lay` meets its contract. Assumes nothing.
-use mathlib.Core.Path.{_≡_, refl, sym}
-use Prim.Native.Nat.{_-_, _^_, _<_, _≤_}
-use native.Mathlib.Nat.{sub-self}
+use mathlib.Core.Path.{_≡_}
+use Prim.Native.Nat.{suc, _-_, _<_, _≤_}
 use native.Mathlib.Omega.{arith}
 use borrow.Author.Needs.{needs}
 use lib.ListN.{length, length-set}
-use Rattle.code.specs.Count.{choose}
-use Rattle.code.specs.Deal.{laid}
-use Rattle.counting.specs.Cap.{cap, sat}
-use Rattle.dealing.proofs.Drawing.{Laying, lay-begin, lay-end, enough, Divided, divided, turn}
+use Rattle.code.specs.Chosen.{patternMost}
+use Rattle.counting.proofs.Laws.{choose-one}
+use Rattle.dealing.specs.Pick.{Candidate}
+use Rattle.dealing.proofs.Drawing.{Laying, lay-begin, lay-last, enough, stepped, followed, turn}
 use Rattle.dealing.proofs.lay.Statement.{statement}
 use Rattle.dealing.proofs.lay.Tie as tie
 
 abbrev Inv-loop2 : tie.InvT-loop2
-Inv-loop2 xs b k power r d s free₀ left power' r₀ d' c₀ free r' c = (left ≤ free) × (free ≤ free₀) × (r' ≡ r₀) × (r' < choose free left) × (c ≡ sat (choose free left))
+Inv-loop2 labels s k r label₀ fit₀ left r' at label fit = (label ≤ label₀) × Candidate left r' label fit
 
 abbrev μ-loop2 : tie.MeasureT-loop2
-μ-loop2 xs b k power r d s free₀ left power' r₀ d' c₀ free r' c = free
+μ-loop2 labels s k r label₀ fit₀ left r' at label fit = label
 
 abbrev Inv-loop : tie.InvT-loop
-Inv-loop xs₀ b k power r d s free₀ left₀ power₀ r₀ d₀ c₀ xs free left power' r' d' c = (s ≡ length xs) × (r' < cap) × (power' ≡ b ^ left) × (c ≡ sat (choose free left)) × Laying b (laid b s k r d) xs (s - free) free left r' d'
+Inv-loop labels₀ s k r label₀ fit₀ left₀ r₀ at₀ labels label fit left r' at =
+    (length labels ≡ patternMost) × (k ≤ patternMost) × (0 < left) × (label ≤ 255) × Candidate left r' label fit × Laying s k r labels at (suc label) left r'
 
 abbrev μ-loop : tie.MeasureT-loop
-μ-loop xs₀ b k power r d s free₀ left₀ power₀ r₀ d₀ c₀ xs free left power' r' d' c = left
+μ-loop labels₀ s k r label₀ fit₀ left₀ r₀ at₀ labels label fit left r' at = left
 
-divide : (c : tie.After-inner Inv-loop2 μ-loop2 Inv-loop μ-loop) →
-    let s = c .before .before .before .before .before in
-    Divided (s .before .before .before .args .b) (s .loop .left) (s .loop .power) (s .loop .d)
-divide c =
-    let s = c .before .before .before .before .before .loop in
-    divided _ _ _ _ (c .before .before .before .before .before .before .before .before .pre .1 .1) (omega arith) (s .inv .2) (s .inv .4 .d-fits)
+-- there is a label below the candidate
+some : (c : tie.At-loop2 Inv-loop2 μ-loop2 Inv-loop μ-loop) → c .before .before .before .loop .left ≤ suc (c .loop2 .label)
+some c = enough _ _ _ (c .loop2 .inv .1 .high)
 
 pub lay-spec : {M : Type 1} → statement M
 lay-spec =
@@ -39,65 +36,67 @@ lay-spec =
     μ-loop2
     Inv-loop
     μ-loop
-    -- binomial-requires
-    (λ c κs. search needs)
+    -- settle-requires
+    (λ c κs. let a = c .args in let h = enough (a .s) (a .k) (a .r) (c .pre .1 .4) in search needs)
     -- loop-holds
     (λ c.
-    let a = c .before .before .args in
-    let q = c .before .before .pre .1 in
-    (refl, q .4, q .3, c .binomial .ensures, rw (sub-self (length (a .xs .now))) (lay-begin (a .b) (a .xs .now) (a .k) (a .r) (a .d) (c .before .before .pre .0) (q .5) (rw (q .3) at (q .6)))))
+    let a = c .before .args in
+    let p = c .before .pre .1 in
+    let x = c .settle .ensures in
+    let C = x .1 (a .r) (p .3) (p .4) in
+    (c .before .pre .0, p .2, p .1, omega arith, C, lay-begin (a .s) (a .k) (a .r) _ (a .labels .now) (p .1) (x .0) (C .high)))
+    -- leap-requires
+    (λ c κs. let s = c .before .loop in (s .inv .3, s .inv .4))
     -- loop2-holds
-    (λ c. let s = c .before .loop in let h = s .inv .4 .r-fits in (enough _ _ _ h, omega arith, refl, h, s .inv .3))
+    (λ c. (omega arith, c .leap .ensures .1))
     -- lower-requires
-    (λ c κs. search needs)
-    -- inner-requires
-    (λ c κs. search needs)
+    (λ c κs.
+    let s = c .before .loop2 in
+    let C = s .inv .1 in
+    (omega arith, enough _ _ _ (rw (C .is) at (c .if1 .left)), omega arith, C .small, C .is))
     -- sub-label
-    (λ c. omega arith)
-    -- sub-free
-    (λ c. omega arith)
+    (λ c. omega (arith, some (c .before .before)))
     -- loop2-less
-    (λ c. omega arith)
+    (λ c. omega (arith, some (c .before .before)))
     -- loop2-again
     (λ c.
     let s = c .before .before .loop2 in
-    let h : s .r < choose (s .free - 1) (c .before .before .before .before .loop .left) = omega arith in
-    (enough _ _ _ h, omega arith, s .inv .2, h, c .before .lower .ensures))
+    (omega arith, stepped _ _ (s .label) (s .fit) _ (omega arith) (s .inv .1) (omega arith) (c .lower .ensures)))
+    -- cast-labels
+    (λ c. omega arith)
+    -- element-write-labels
+    (λ c. omega arith)
+    -- add-at
+    (λ c. omega arith)
+    -- inner-requires
+    (λ c κs.
+    let C = c .before .loop2 .inv .1 in
+    let h = some (c .before) in
+    (omega arith, h, omega arith, omega arith, C .small, C .is))
+    -- sub-label-2
+    (λ c. omega (arith, some (c .before .before)))
     -- sub-left
     (λ c. omega arith)
-    -- div-power
-    (λ c. omega arith)
-    -- div-xs
-    (λ c. divide c .divisor)
-    -- cast-xs
-    (λ c. omega (arith, divide c .digit))
-    -- add-xs
-    (λ c. omega (arith, divide c .digit))
-    -- sub-xs
-    (λ c. omega arith)
-    -- sub-xs-2
-    (λ c. omega arith)
-    -- slice-write-xs
-    (λ c. omega arith)
-    -- rem-d
-    (λ c. divide c .divisor)
     -- loop-less
     (λ c. omega arith)
     -- loop-again
     (λ c.
     let s = c .before .before .before .before .before .loop in
-    let f = c .before .before .before .loop2 in
-    let a = c .before .before .before .before .before .before .before .before in (
-      simp length-set (s .inv .0),
-      omega arith,
-      divide c .power-is,
-      c .inner .ensures,
-      turn _ _ _ _ _ _ _ _ _ _ _ (a .pre .1 .1) (s .inv .0) (omega arith) (f .inv .0) (f .inv .1) (rw (sym (f .inv .2)) at (s .inv .4)) (f .inv .3) (c .before .before .lower .ensures) (omega arith) (omega arith) (divide c .power-is),
-    ))
-    -- same-length
-    (λ c. sym (c .before .loop .inv .0))
+    let f = c .before .before .loop2 in
+    let C = f .inv .1 in
+    let h = some (c .before .before) in
+    let u : suc (f .label - 1) ≡ f .label = omega arith in
+    let L = turn _ _ _ _ _ _ _ _ (s .inv .5) (omega arith) (f .label) (f .fit) (omega arith) (omega arith) (C .high) (C .is) (c .before .if1 .taken) in
+    let D = followed _ _ (f .label) (f .fit) _ (omega arith) (omega arith) C (c .inner .ensures) (L .fits) in
+    (simp length-set (s .inv .0), s .inv .1, omega arith, omega arith, D, rw u L))
+    -- cast-labels-2
+    (λ c.
+    let s = c .before .loop in
+    let z : s .left ≡ 1 = omega arith in
+    omega (arith, choose-one (suc (s .label)), rw z at (s .inv .4 .high)))
+    -- element-write-labels-2
+    (λ c. omega arith)
     -- returns
     (λ c.
     let s = c .before .loop in
-    let z : s .left ≡ 0 = omega arith in
-    lay-end _ _ _ _ _ _ _ (rw z at (s .inv .4))))
+    (lay-last _ _ _ _ _ _ _ _ (s .inv .5) (omega arith) (omega arith), simp length-set (s .inv .0))))

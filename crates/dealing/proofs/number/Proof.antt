@@ -1,10 +1,8 @@
 -- `dealing::number` meets its contract. Assumes nothing.
+use native.Mathlib.Nat.{one-le-pow}
 use native.Mathlib.Omega.{arith}
 use borrow.Author.Needs.{needs}
-use lib.ListN.{length}
-use Rattle.code.proofs.Deal.{written-le}
-use Rattle.code.proofs.Places.{number-past}
-use Rattle.dealing.proofs.Telling.{number-sat, few}
+use Rattle.dealing.proofs.Telling.{few, number-over, number-sum}
 use Rattle.dealing.proofs.number.Statement.{statement}
 use Rattle.dealing.proofs.number.Tie as tie
 
@@ -12,28 +10,27 @@ pub number-spec : {M : Type 1} → statement M
 number-spec =
     tie.close
     (tie.spec
-    -- marks-requires
-    (λ c κs. search needs)
     -- fewer-requires
-    (λ c κs. let h = written-le (c .before .before .args .xs .now) in search needs)
+    (λ c κs. search needs)
     -- returns
-    (λ c.
-    let a = c .before .before .before .before .args in
-    omega (arith, rw (c .before .before .marks .ensures) at (c .before .fewer .ensures), number-past (a .b) (a .start) (a .xs .now)))
+    (λ c. omega arith)
     -- rank-from-requires
     (λ c κs.
-    let a = c .before .before .before .before in
-    let h = written-le (a .args .xs .now) in
-    let k = c .before .before .marks in
-    (omega arith, omega arith, k .ensures, few (a .args .b) (length (a .args .xs .now)) (a .args .start) (k .result) (a .pre .1) (a .pre .3) (omega arith) (omega arith)))
-    -- read-digits-requires
+    let a = c .before .before .args in
+    let p = c .before .before .pre .1 in
+    (search needs, omega arith, few (a .b) (a .s) (a .start) (a .k) (p .3) (p .5) (p .1) (omega arith)))
+    -- returns-2
+    (λ c.
+    let a = c .before .before .before .before .args in
+    number-over _ _ _ _ (c .before .rank-from .result) (one-le-pow (a .k) (a .b) (omega arith)) (c .before .rank-from .ensures .0) (omega arith))
+    -- read-on-requires
     (λ c κs. search needs)
     -- add-clip
     (λ c. search needs)
     -- clip-requires
     (λ c κs. search needs)
-    -- returns-2
+    -- returns-3
     (λ c.
-    let f = c .before .before .before .before in
-    let a = f .before .before .before in
-    number-sat (a .args .b) (a .args .start) (a .args .xs .now) (omega arith) (rw (f .before .marks .ensures) at (f .fewer .ensures)) (c .before .before .rank-from .ensures) (c .before .read-digits .ensures) (c .clip .ensures)))
+    let r = c .before .before .before .rank-from in
+    number-sum _ _ _ _ (r .result) (r .ensures .0) (omega arith)
+    (c .before .before .before .before .before .fewer .ensures) (c .before .read-on .ensures) (c .clip .ensures)))

@@ -1,18 +1,21 @@
 -- `dealing::plainly` meets its contract. Assumes nothing.
 use mathlib.Core.Path.{_≡_, refl}
-use native.Mathlib.Nat.{mod-lt}
+use Prim.Native.Nat.{_-_, _%_}
+use native.Mathlib.Nat.{mul-le-mul, mul-pos, mod-lt, div-le-self}
 use native.Mathlib.Omega.{arith}
 use borrow.Author.Needs.{needs}
-use lib.ListN.{length, length-set}
-use Rattle.dealing.proofs.Drawing.{Placed, place-begin, place-turn, place-end}
+use lib.ListN.{length, take, set, length-set}
+use lib.Seq.{length-take-le}
+use Rattle.code.specs.Chosen.{patternMost}
+use Rattle.dealing.proofs.Drawing.{Placed, place-begin, fill-two, fill-one, fill-end}
 use Rattle.dealing.proofs.plainly.Statement.{statement}
 use Rattle.dealing.proofs.plainly.Tie as tie
 
 abbrev Inv-loop : tie.InvT-loop
-Inv-loop xs₀ e x x₀ i₀ xs x' i = (length xs ≡ length xs₀) × Placed e x xs i x'
+Inv-loop values₀ s e x square part x₀ i₀ values x' i = (length values ≡ patternMost) × Placed e x (take s values) i x'
 
 abbrev μ-loop : tie.MeasureT-loop
-μ-loop xs₀ e x x₀ i₀ xs x' i = i
+μ-loop values₀ s e x square part x₀ i₀ values x' i = i
 
 pub plainly-spec : {M : Type 1} → statement M
 plainly-spec =
@@ -20,30 +23,53 @@ plainly-spec =
     (tie.spec
     Inv-loop
     μ-loop
+    -- mul-square
+    (λ c. let e = c .args .e in omega (arith, mul-le-mul {n₁ = e} {m₁ = e} {n₂ = 15} {m₂ = 15} (omega arith) (omega arith)))
+    -- div-part
+    (λ c. search needs)
+    -- add-part
+    (λ c. omega (arith, div-le-self 65536 (c .args .e)))
     -- loop-holds
-    (λ c. (refl, place-begin (c .args .e) (c .args .x) (c .args .xs .now)))
+    (λ c.
+    let a = c .args in
+    (c .pre .0, rw (length-take-le (a .s) (a .values .now) (omega arith)) at (place-begin (a .e) (a .x) (take (a .s) (a .values .now)))))
     -- sub-i
-    (λ c. search needs)
-    -- rem-xs
-    (λ c. search needs)
-    -- cast-xs
-    (λ c. let s = c .before in omega (arith, mod-lt (s .loop .x) {m = s .before .args .e} (omega arith)))
-    -- slice-write-xs
     (λ c. omega arith)
+    -- rem-put-two
+    (λ c. mul-pos (omega arith) (omega arith))
+    -- put-two-requires
+    (λ c κs.
+    let s = c .before .before .loop in
+    let a = c .before .before .before .args in
+    let n = length-take-le (a .s) (s .values) (omega arith) in
+    (s .inv .0, omega (arith, s .inv .1 .to), omega arith, omega arith, refl, mod-lt (s .x) (mul-pos {m = a .e} {n = a .e} (omega arith) (omega arith))))
     -- div-x
-    (λ c. search needs)
+    (λ c. mul-pos (omega arith) (omega arith))
     -- loop-less
-    (λ c. search needs)
+    (λ c. omega arith)
     -- loop-again
     (λ c.
-    let s = c .before .loop in
-    let a = c .before .before in
-    (simp length-set (s .inv .0), place-turn (a .args .e) (a .args .x) (s .xs) (s .i) (s .x) (a .pre .0) (c .loop-test .taken) (s .inv .1)))
-    -- same-length
-    (λ c. c .before .loop .inv .0)
+    let s = c .before .before .before .loop in
+    let a = c .before .before .before .before .args in (
+      rw (c .put-two .ensures) (simp length-set (s .inv .0)),
+      rw (c .put-two .ensures) (fill-two (a .e) (a .x) (a .s) (s .values) (omega arith) (omega arith) (s .i) (s .x) (omega arith) (s .inv .1)),
+    ))
+    -- rem-values
+    (λ c. search needs)
+    -- cast-values
+    (λ c. let s = c .before .before in omega (arith, mod-lt (s .loop .x) {m = s .before .args .e} (omega arith)))
+    -- element-write-values
+    (λ c. search needs)
     -- returns
     (λ c.
-    let s = c .before .loop in
-    let a = c .before .before in
+    let s = c .before .before .loop in
+    let a = c .before .before .before in
+    let P = fill-one (a .args .e) (a .args .x) (a .args .s) (s .values) (omega arith) (omega arith) (s .x) (rw (c .if1 .taken) at (s .inv .1)) in
+    let n : length (set (s .values) 0 (s .x % a .args .e)) ≡ patternMost = simp length-set (s .inv .0) in
+    (fill-end (a .args .e) (a .args .x) (a .args .s) _ (omega arith) (omega arith) _ (a .pre .4) P, n))
+    -- returns-2
+    (λ c.
+    let s = c .before .before .loop in
+    let a = c .before .before .before in
     let z : s .i ≡ 0 = omega arith in
-    rw (← s .inv .0) (place-end (a .args .e) (a .args .x) (s .xs) (s .x) (a .pre .0) (rw (s .inv .0) (a .pre .2)) (rw z at (s .inv .1)))))
+    (fill-end (a .args .e) (a .args .x) (a .args .s) (s .values) (omega arith) (omega arith) (s .x) (a .pre .4) (rw z at (s .inv .1)), s .inv .0)))

@@ -1,0 +1,164 @@
+-- Erasing groups in words.
+use mathlib.Core.Path.{_≡_, refl, sym, ap, _∙_}
+use mathlib.Core.Logic.{inl, inr}
+use mathlib.Core.List.{List, [], _∷_, _++_}
+use Prim.Native.Nat.{ℕ, zero, suc, _+_, _*_, _-_, _^_, _≤_, _<_}
+use native.Mathlib.Omega.{arith}
+use native.Mathlib.Decide.{ℕ-discrete}
+use native.Mathlib.Nat.{mul-comm, zero-mul, zero-add, sub-zero, lt-of-lt-of-le}
+use lib.Count.{ones}
+use lib.Pow.{pow-mono}
+use lib.ListN.{length, getD, set, length-set}
+use lib.Seq.{getD-set-same, getD-set-other, set-getD}
+use borrow.Author.Tests.{ne-eqb}
+use Rattle.code.specs.Field.{zeros, erase}
+use Rattle.code.specs.Lists.{Upto}
+use Rattle.code.proofs.Groups.{Wiped, erase-wiped, erase-length}
+use Rattle.words.specs.Words.{groupsOf, allGroups, wordBytes, wordGroups, frontGroups}
+use Rattle.words.specs.Marks.{lows, marksOf, zeroGroup, nonzeroGroup, wordLows, wordMarks, stripped, ZeroMarked, Erased}
+use Rattle.words.proofs.Sizes.{word-fits}
+use Rattle.words.proofs.Masks.{groups-long, marks-not}
+use Rattle.words.proofs.Front.{front-more, front-set}
+use Rattle.words.proofs.Seeing.{zeros-ones, zeros-append}
+use Rattle.words.proofs.Packed.{packed, packed-lt, groups-packed}
+use Rattle.words.proofs.Stripping.{marks-kept, left-more}
+
+wiped-upto : (e : ℕ) (xs : List ℕ) → Wiped e xs → Upto e xs
+wiped-upto e [] w = tt
+wiped-upto e (x ∷ xs) w = (elim (w .0) [ inl z ↦ omega arith | inr q ↦ omega arith ], wiped-upto e xs (w .1))
+
+-- the marks of the groups that are not zero, times all ones
+marks-packed : (m e : ℕ) (xs : List ℕ) → 0 < e → Wiped e xs → marksOf m nonzeroGroup xs * e ≡ packed m xs
+unfolding marksOf packed
+marks-packed m e [] pos w = zero-mul e
+marks-packed m e (x ∷ xs) pos w = elim (w .0) [
+  | inl z ↦ rw (z) (omega (arith, marks-packed m e xs pos (w .1)))
+  | inr q ↦ rw (ne-eqb x 0 (λ z. omega arith), q) (omega (arith, marks-packed m e xs pos (w .1), mul-comm e (2 ^ (m * length xs))))
+]
+
+-- the word that is 0 at the marks o and has all ones elsewhere
+abbrev pub filledWord : ℕ → ℕ → ℕ
+filledWord m o = (wordLows m - o) * (2 ^ m - 1)
+
+-- the zero groups that are left of a word where the leftmost `spare` are erased, and the word then
+pub record Wipes (m spare w o : ℕ) : Type 0 where
+  pub below : o ≤ wordLows m
+  pub fits : filledWord m o < 2 ^ 64
+  pub tidy : filledWord m o < 2 ^ (8 * wordBytes m)
+  pub made : groupsOf m (wordGroups m) (filledWord m o) ≡ erase (2 ^ m - 1) spare (groupsOf m (wordGroups m) w)
+  pub marks : o ≡ wordMarks m zeroGroup (filledWord m o)
+
+module _ (m : ℕ) (hm : 2 ≤ m) (lm : m ≤ 4) where
+  pub full-some : 0 < 2 ^ m - 1
+  full-some = omega (arith, pow-mono {i = 2} {j = m} hm)
+
+  pub word-bits : (w : ℕ) → m * length (groupsOf m (wordGroups m) w) ≤ 64
+  word-bits w = rw (groups-long m (wordGroups m) w) (omega (arith, word-fits m hm lm))
+
+  wipes-at : (spare w : ℕ) → Wipes m spare w (marksOf m zeroGroup (erase (2 ^ m - 1) spare (groupsOf m (wordGroups m) w)))
+  wipes-at spare w =
+      let n = wordGroups m in
+      let e : ℕ = 2 ^ m - 1 in
+      let gs = groupsOf m n w in
+      let xs : List ℕ = erase e spare gs in
+      let o : ℕ = marksOf m zeroGroup xs in
+      let wiped = erase-wiped e spare gs in
+      let f = word-fits m hm lm in
+      let l : length xs ≡ n = erase-length e spare gs ∙ groups-long m n w in
+      let s : lows m n ≡ o + marksOf m nonzeroGroup xs = rw l at (marks-not m zeroGroup xs) in
+      let d : lows m n - o ≡ marksOf m nonzeroGroup xs = omega arith in
+      let p : filledWord m o ≡ packed m xs = rw (d, marks-packed m e xs full-some wiped) in
+      let t : packed m xs < 2 ^ (m * n) = rw l at (packed-lt m xs (wiped-upto e xs wiped)) in
+      let g : groupsOf m n (filledWord m o) ≡ xs = rw p (rw l at (groups-packed m xs (wiped-upto e xs wiped))) in
+      record {
+        below = omega arith;
+        fits = rw p (lt-of-lt-of-le t (pow-mono {i = m * n} {j = 64} (omega (arith, f))));
+        tidy = rw (p, ← f .0) t;
+        made = g;
+        marks = ap (marksOf m zeroGroup) (sym g);
+      }
+
+  pub wipes-is : (spare w z o : ℕ) → z ≡ wordMarks m zeroGroup w → o ≡ stripped spare z → Wipes m spare w o
+  wipes-is spare w z o q r =
+      let gs = groupsOf m (wordGroups m) w in
+      let e : ℕ = 2 ^ m - 1 in
+      let a : o ≡ marksOf m zeroGroup (erase e spare gs) =
+      r ∙ ap (stripped spare) (q ∙ sym (marks-kept m e gs full-some)) ∙ left-more m e (omega arith) full-some gs (word-bits w) 0 spare ∙ rw (zero-add spare) in
+      rw a (wipes-at spare w)
+
+pub erase-append : (e s : ℕ) (xs ys : List ℕ) → erase e s (xs ++ ys) ≡ erase e s xs ++ erase e (s - zeros xs) ys
+unfolding erase zeros
+erase-append e s [] ys = rw sub-zero
+erase-append e s (suc x ∷ xs) ys = ap (λ (l : List ℕ). e ∷ l) (erase-append e s xs ys)
+erase-append e zero (zero ∷ xs) ys =
+    let z : 0 - suc (zeros xs) ≡ 0 - zeros xs = omega arith in
+    rw z (ap (λ (l : List ℕ). 0 ∷ l) (erase-append e zero xs ys))
+erase-append e (suc s) (zero ∷ xs) ys =
+    let z : suc s - suc (zeros xs) ≡ s - zeros xs = omega arith in
+    rw z (ap (λ (l : List ℕ). e ∷ l) (erase-append e s xs ys))
+
+-- the first i words are erased
+pub record Wiping (m spare : ℕ) (before : List ℕ) (i left : ℕ) (ws os : List ℕ) : Type 0 where
+  pub was : length before ≡ 16
+  pub spared : left ≡ spare - zeros (frontGroups m i before)
+  pub ready : ZeroMarked m i ws os
+  pub made : frontGroups m i ws ≡ erase (2 ^ m - 1) spare (frontGroups m i before)
+  pub same : (j : ℕ) → i ≤ j → getD ws j 0 ≡ getD before j 0
+
+pub zero-none : (m : ℕ) (ws os : List ℕ) → 2 ≤ m → m ≤ 4 → length ws ≡ 16 → length os ≡ 16 → ZeroMarked m 0 ws os
+zero-none m ws os hm lm l r =
+    record { wide = hm; narrow = lm; few = omega arith; long = l; room = r; tidy = λ j h. absurd (omega arith); marked = λ j h. absurd (omega arith) }
+
+pub wiping-none : (m spare : ℕ) (ws os : List ℕ) → 2 ≤ m → m ≤ 4 → length ws ≡ 16 → length os ≡ 16 → Wiping m spare ws 0 spare ws os
+unfolding allGroups erase zeros
+wiping-none m spare ws os hm lm l r = record {
+  was = l;
+  spared = sym (sub-zero spare);
+  ready = zero-none m ws os hm lm l r;
+  made = refl;
+  same = λ j h. refl;
+}
+
+-- a word more, and its zero marks
+pub zero-more : {m i : ℕ} {ws os : List ℕ} (w o : ℕ) → ZeroMarked m i ws os → i < 16 → w < 2 ^ (8 * wordBytes m) → o ≡ wordMarks m zeroGroup w
+    → ZeroMarked m (i + 1) (set ws i w) (set os i o)
+zero-more {m} {i} {ws} {os} w o C h l e = record {
+  wide = C .wide;
+  narrow = C .narrow;
+  few = omega arith;
+  long = rw length-set (C .long);
+  room = rw length-set (C .room);
+  tidy = λ j b. elim (ℕ-discrete j i) [
+    | yes q ↦ rw (q, getD-set-same ws i w 0 (omega (arith, C .long))) l
+    | no q ↦ rw (getD-set-other ws i j w 0 q) (C .tidy j (omega arith))
+  ];
+  marked = λ j b. elim (ℕ-discrete j i) [
+    | yes q ↦ rw (q, getD-set-same os i o 0 (omega (arith, C .room)), getD-set-same ws i w 0 (omega (arith, C .long))) e
+    | no q ↦ rw (getD-set-other os i j o 0 q, getD-set-other ws i j w 0 q) (C .marked j (omega arith))
+  ];
+}
+
+pub wiping-more : {m spare : ℕ} {before : List ℕ} {i left : ℕ} {ws os : List ℕ} (w z o y : ℕ) → Wiping m spare before i left ws os → i < 16
+    → w ≡ getD ws i 0 → z ≡ wordMarks m zeroGroup w → Wipes m left w o → y ≡ left - ones z
+    → Wiping m spare before (i + 1) y (set ws i (filledWord m o)) (set os i o)
+wiping-more {m} {spare} {before} {i} {left} {ws} {os} w z o y C h ew ez W ey =
+    let n = wordGroups m in
+    let e : ℕ = 2 ^ m - 1 in
+    let g = groupsOf m n w in
+    let front = frontGroups m i before in
+    let more : frontGroups m (i + 1) before ≡ front ++ g = rw (front-more m i before (omega (arith, C .was)), ← C .same i (omega arith), ← ew) in
+    record {
+      was = C .was;
+      spared = rw (more, zeros-append front g) (omega (arith, ey, ap ones ez, C .spared, zeros-ones m g (omega (arith, C .ready .wide))));
+      ready = zero-more (filledWord m o) o (C .ready) h (W .tidy) (W .marks);
+      made = rw (more, front-set m i (filledWord m o) ws (omega (arith, C .ready .long)), erase-append e spare front g, C .made, W .made, C .spared);
+      same = λ j b. getD-set-other ws i j (filledWord m o) 0 (λ q. omega arith) ∙ C .same j (omega arith);
+    }
+
+pub wiping-all : {m spare : ℕ} {before : List ℕ} {i left : ℕ} {ws os : List ℕ} → Wiping m spare before i left ws os → Erased m i spare before ws os
+wiping-all C = record { ready = C .ready; made = C .made }
+
+-- a word as it is, and its zero marks
+pub zero-next : {m i : ℕ} {ws os : List ℕ} (o : ℕ) → ZeroMarked m i ws os → i < 16 → getD ws i 0 < 2 ^ (8 * wordBytes m)
+    → o ≡ wordMarks m zeroGroup (getD ws i 0) → ZeroMarked m (i + 1) ws (set os i o)
+zero-next {m} {i} {ws} {os} o C h l e = rw (set-getD ws i 0) at (zero-more (getD ws i 0) o C h l e)

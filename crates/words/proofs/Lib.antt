@@ -1,0 +1,17 @@
+pub mod Sizes
+pub mod Masks
+pub mod Picked
+pub mod Front
+pub mod Seeing
+pub mod Marking
+pub mod Highest
+pub mod Filling
+pub mod Gathering
+pub mod Packed
+pub mod Stripping
+pub mod Erasing
+pub mod Laying
+pub mod Digits
+pub mod Scattering
+pub mod Patterns
+pub mod Joined
