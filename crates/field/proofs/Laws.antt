@@ -1,21 +1,18 @@
--- What the functions of this crate go by: the granted counts, and the generation that a zero count points to.
+-- What the functions of this crate go by: the generation that a zero count points to.
 use mathlib.Core.Path.{_≡_, refl, sym, _∙_}
-use mathlib.Core.List.{List, _∷_}
-use Prim.Native.Nat.{ℕ, zero, suc, _+_, _-_, _^_, _≤_, _<_}
+use mathlib.Core.List.{List}
+use Prim.Native.Nat.{ℕ, zero, suc, _+_, _-_, _≤_, _<_}
 use native.Mathlib.Omega.{arith}
 use native.Mathlib.Numerals.{add-one}
 use native.Mathlib.Nat.{zero-add, add-zero}
-use lib.ListN.{length, getD, drop, replicate, drop-of-length-le, List·getD-eq-default}
+use lib.ListN.{length, getD, drop, drop-of-length-le, List·getD-eq-default}
 use lib.Seq.{drop-cons, getD-drop}
 use borrow.Author.Tests.{le-leb, lt-leb}
 use mathlib.Core.Logic.{_≢_}
+use Rattle.code.specs.declared.Shape.{Shape}
+use Rattle.code.specs.Shape.{countsOf}
 use Rattle.code.specs.Field.{past, base, start}
-use Rattle.code.specs.Calls.{filled, granted, layoutRefusal, layoutReply}
-use Rattle.code.proofs.Conditions.{head-most}
-use Rattle.code.proofs.Demand.{within, fits, is-layout}
-use Rattle.code.proofs.Calls.{granted-length}
-use Rattle.code.proofs.LayoutReply.{reply-number, reply-counts, reply-count}
-use Rattle.field.specs.Answers.{Granted}
+use Rattle.layout.specs.Plan.{Granted}
 
 -- n generations are passed, and what is left of the list says how many more
 pub record Passing (hs : List ℕ) (z n : ℕ) : Type 0 where
@@ -35,35 +32,16 @@ module _ {hs : List ℕ} {z n : ℕ} (P : Passing hs z n) where
 
   pub passing-more : suc n < length hs → z < getD hs (suc n) 0 → Passing hs z (n + 1)
   unfolding past
-  passing-more l g = record { below = omega arith; total = P .total ∙ rw (add-one n, drop-cons hs n 0 (P .below), here l, lt-leb (getD hs (suc n) 0) z g) (omega arith) }
+  passing-more l g = record
+      { below = omega arith; total = P .total ∙ rw (add-one n, drop-cons hs n 0 (P .below), here l, lt-leb (getD hs (suc n) 0) z g) (omega arith) }
 
   pub passing-last : length hs ≤ suc n → past hs z ≡ n
   unfolding past
   passing-last l = P .total ∙ rw (drop-cons hs n 0 (P .below), drop-of-length-le hs l, le-leb 0 z (omega arith)) (add-zero n)
 
--- a layout's reply that is no refusal holds the granted counts
-pub granted-is : (m t v k : ℕ) (h : List ℕ) → k ∷ h ≡ filled 17 (layoutReply m t v 256) → k ≡ 0 → Granted m t v h
-granted-is m t v k h q z =
-    let ok : layoutRefusal m t v 256 ≡ 0 = sym (reply-number m t v 256 k h q) ∙ z in
-    let w = within m t v ok in
-    let y = is-layout m t v ok in
-    let each = reply-count m t v 256 k h q z in
-    record {
-      ok = ok;
-      m-low = w .m-low;
-      m-high = w .m-high;
-      t-low = w .t-low;
-      t-high = w .t-high;
-      v-high = w .v-high;
-      list = reply-counts m t v 256 k h q z;
-      many = granted-length m t v 256;
-      each = each;
-      small = λ n. omega (arith, each n, fits m t v ok, head-most (2 ^ m - 1) (2 ^ m - 1) 0 (granted m t v 256) (replicate t v) n (y .holds));
-    }
-
 -- past the sixteenth place there is no count
-pub none-behind : (m t v n : ℕ) (h : List ℕ) → Granted m t v h → t ≤ n → getD (granted m t v 256) n 0 ≡ 0
-none-behind m t v n h G l = List·getD-eq-default (granted m t v 256) 0 {n = n} (omega (arith, G .many))
+pub none-behind : (s : Shape) (n : ℕ) (h : List ℕ) → Granted s h → s .t ≤ n → getD (countsOf s) n 0 ≡ 0
+none-behind s n h G l = List·getD-eq-default (countsOf s) 0 {n = n} (omega (arith, G .many))
 
 -- the first place, and a later one
 pub base-first : (e n : ℕ) → n ≡ 0 → e ≡ base e n
@@ -75,11 +53,11 @@ unfolding base
 base-later e zero d = absurd (d refl)
 base-later e (suc n) d = refl
 
-pub start-first : (n : ℕ) → n ≡ 0 → 0 ≡ start 0 n
+pub start-first : (first n : ℕ) → n ≡ 0 → first ≡ start first n
 unfolding start
-start-first n z = rw z
+start-first first n z = rw z
 
-pub start-later : (n : ℕ) → n ≢ 0 → 1 ≡ start 0 n
+pub start-later : (first n : ℕ) → n ≢ 0 → 1 ≡ start first n
 unfolding start
-start-later zero d = absurd (d refl)
-start-later (suc n) d = refl
+start-later first zero d = absurd (d refl)
+start-later first (suc n) d = refl

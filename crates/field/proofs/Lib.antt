@@ -1,7 +1,6 @@
 pub mod Laws
 pub mod Judging
-pub mod Replying
-pub mod Drawing
+pub mod Laying
 pub mod Rewriting
 pub mod Unique
 pub mod Demand

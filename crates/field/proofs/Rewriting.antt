@@ -1,117 +1,123 @@
 -- The replies of write and the cells that it leaves, from what its calls have found.
 use mathlib.Core.Path.{_≡_, refl, sym, ap, _∙_}
 use mathlib.Core.Logic.{_≢_}
-use mathlib.Core.Bool.{Bool, true, not}
+use mathlib.Core.Bool.{Bool, true, false, cond, not}
 use mathlib.Core.List.{List, [], _∷_}
 use Prim.Native.Nat.{ℕ, zero, suc, _+_, _-_, _^_, _≤_, _<_}
 use native.Mathlib.Omega.{arith}
 use native.Mathlib.Decide.{ℕ-discrete}
 use native.Mathlib.Numerals.{add-one}
 use lib.Arith.{lt-of-le-ne}
-use lib.ListN.{length, getD, take, replicate}
-use borrow.Author.Tests.{not-true}
-use Rattle.code.specs.Deal.{written}
-use Rattle.code.specs.Cells.{wit, opened, sound}
-use Rattle.code.specs.Field.{zeros, reads, read, after, wrote, write}
-use Rattle.code.specs.Calls.{filled, granted, layoutReply, writeReply, writeLeaves}
-use Rattle.code.proofs.Cells.{groups-length}
-use Rattle.code.proofs.Groups.{zeros-blank, zeros-written}
+use lib.Dec.{eqb}
+use lib.ListN.{length, getD}
+use borrow.Author.Tests.{not-true, eq-eqb, ne-eqb}
+use Rattle.code.specs.declared.Shape.{Shape}
+use Rattle.code.specs.Shape.{firstOf, rangesOf, orderOf, countsOf, widthOf}
+use Rattle.code.specs.Cells.{opened, sound}
+use Rattle.code.specs.Field as Field
+use Rattle.code.specs.Calls.{readCells, fieldRead, unreadable, spent, writeReply, writeLeaves, filled, layoutFields, layoutReply}
+use Rattle.code.proofs.Tests.{clash}
+use Rattle.code.proofs.Groups.{blank-zeros}
 use Rattle.code.proofs.Field as Code
-use Rattle.code.proofs.Demand.{is-layout}
-use Rattle.code.proofs.LayoutReply.{reply-number}
-use Rattle.code.proofs.Calls.{granted-length, read-most}
-use Rattle.code.proofs.Replies.{Refuses, write-no-layout, write-unsound, write-large, write-unread, write-spent, write-made}
-use Rattle.code.proofs.Writes.{field-read, first-write, next-write}
-use Rattle.cells.specs.Cells.{Spread, Rewritten}
-use Rattle.field.specs.declared.Found.{Found}
-use Rattle.field.specs.Answers.{foundOf, Granted, Next, Ready}
-use Rattle.field.proofs.Replying.{unnumbered, numbered-is, sound-first, same-read, field-reads}
+use Rattle.code.proofs.WriteCall.{Refuses, write-no-layout, write-unsound, write-large, write-unread, write-spent, write-made, first-write, next-write, read-most}
+use Rattle.cells.specs.Cells.{Stored}
+use Rattle.layout.specs.Plan.{Granted}
+use Rattle.layout.proofs.Planning.{plan-refused}
+use Rattle.field.specs.declared.Aim.the-variants.{At, Refused}
+use Rattle.field.specs.Answers.{aimAt, Ready, fieldGroups, Looked}
+use Rattle.field.proofs.Judging.{sound-width}
 
 -- a reply and the cells at exit, as a call's promise has them
-abbrev pub Answers : ℕ → ℕ → ℕ → ℕ → List ℕ → List ℕ → List ℕ → Type 0
-Answers m t v x bs reply after = (reply ≡ writeReply m t v x bs) × (after ≡ writeLeaves m t v x bs)
+abbrev pub Answers : Shape → ℕ → List ℕ → List ℕ → List ℕ → Type 0
+Answers s x bs reply after = (reply ≡ writeReply s x bs) × (after ≡ writeLeaves s x bs)
 
-refuses : (m t v x k : ℕ) (bs : List ℕ) → Refuses m t v x bs k → Answers m t v x bs (k ∷ []) bs
-refuses m t v x k bs w = (sym (w .0), sym (w .1))
+refuses : (s : Shape) (x k : ℕ) (bs : List ℕ) → Refuses s x bs k → Answers s x bs (k ∷ []) bs
+refuses s x k bs w = (sym (w .0), sym (w .1))
 
-pub writes-refused : (m t v x k : ℕ) (h bs : List ℕ) → k ∷ h ≡ filled 17 (layoutReply m t v 256) → k ≢ 0 → Answers m t v x bs (k ∷ []) bs
-writes-refused m t v x zero h bs q d = absurd (d refl)
-writes-refused m t v x (suc k) h bs q d = refuses m t v x (suc k) bs (write-no-layout m t v x bs k (sym (reply-number m t v 256 (suc k) h q)))
+pub writes-refused : (s : Shape) (x : ℕ) (bs : List ℕ) {k : ℕ} {h : List ℕ} → k ∷ h ≡ filled layoutFields (layoutReply s 256) → k ≢ 0 → Answers s x bs (k ∷ []) bs
+writes-refused s x bs {k} right d = refuses s x k bs (write-no-layout s x bs k (plan-refused s right (lt-of-le-ne (omega arith) (λ z. d (sym z)))))
 
-enough-left : (hs : List ℕ) (i : ℕ) (gs : List ℕ) → i ≢ 0 → Code.Ready hs i gs → getD hs i 0 ≤ zeros gs
-enough-left hs zero gs d r = absurd (d refl)
-enough-left hs (suc i) gs d r = r
+-- where groups gs that read as r are written, z of them being zero
+pub record Place (s : Shape) (x : ℕ) (gs : List ℕ) (r : Field.Reading) (i z : ℕ) : Type 0 where
+  pub low : i < s .t
+  pub ready : Ready s i z gs
+  pub made : Field.write (2 ^ s .m - 1) (firstOf s) (countsOf s) (rangesOf s) x gs ≡ Field.wrote (suc i)
+      (Field.after (2 ^ s .m - 1) (firstOf s) (countsOf s) i x gs)
+  pub readable : unreadable r ≡ false
+  pub unspent : spent (s .t) r ≡ false
 
-module _ {m t v : ℕ} {h : List ℕ} (G : Granted m t v h) (x : ℕ) (bs : List ℕ) where
-  pub writes-3 : (r : Bool) → r ≡ sound 0 m (getD h 0 0) bs → not r ≡ true → Answers m t v x bs (3 ∷ []) bs
-  writes-3 r q s = refuses m t v x 3 bs (write-unsound m t v x bs (G .ok) (rw (← G .each 0) (sym q ∙ not-true r s)))
+module _ {s : Shape} {h : List ℕ} (G : Granted s h) (x : ℕ) (b : x < s .v) (gs : List ℕ) (i z : ℕ) (none : z ≡ Field.zeros gs)
+    (long : length gs ≡ widthOf s) where
+  enough : (j : ℕ) → j ≢ 0 → Code.Ready (countsOf s) j gs → getD (countsOf s) j 0 ≤ z
+  enough zero d w = absurd (d refl)
+  enough (suc j) d w = omega (arith, w, none)
 
-  module _ (s : sound 0 m (getD h 0 0) bs ≡ true) where
-    pub writes-6 : v ≤ x → Answers m t v x bs (6 ∷ []) bs
-    writes-6 l = refuses m t v x 6 bs (write-large m t v x bs (G .ok) (sound-first G bs s) l)
+  pub place : (r : Field.Reading) → Field.read (2 ^ s .m - 1) (firstOf s) (countsOf s) (rangesOf s) gs ≡ r → At i ≡ aimAt (s .t) r → Place s x gs r i z
+  unfolding unreadable spent widthOf
+  place Field.blank reading q =
+      let first : i ≡ 0 = cc in
+      let w = first-write s (G .ok) x gs reading b in
+      let full : getD (countsOf s) 0 0 ≤ z = omega (arith, none, long, blank-zeros gs (w .1)) in
+      rw first (record {
+        low = omega (arith, G .t-low);
+        ready = record { none = none; blank = λ _. w .1; enough = full };
+        made = w .0;
+        readable =
+            refl;
+        unspent = refl;
+      })
+  place (Field.reads j y) reading q = elim (ℕ-discrete j (s .t)) [
+    | yes t ↦ let q′ = rw (eq-eqb j (s .t) t) at q in clash (cc)
+    | no d ↦
+        let q′ = rw (ne-eqb j (s .t) d) at q in
+        let same : i ≡ j = cc in
+        let below = lt-of-le-ne (read-most s (G .ok) gs j y reading) d in
+        let w = next-write s (G .ok) x j y gs b reading below in
+        let some : j ≢ 0 = λ n. absurd (omega (arith, n, Code.read-past (2 ^ s .m - 1) (firstOf s) (countsOf s) (rangesOf s) gs j y reading)) in
+        rw same (record {
+          low = below;
+          ready = record { none = none; blank = λ n. absurd (some n); enough = enough j some (w .1) };
+          made = w .0;
+          readable = refl;
+          unspent = ne-eqb j (s .t) d;
+        })
+  ]
+  place (Field.miscounted j u) reading q = clash (cc)
+  place (Field.beyond j) reading q = clash (cc)
 
-    module _ (b : x < v) {out : List ℕ} {z : ℕ} (S : Spread (opened 0 m (getD h 0 0) bs) (getD h 0 0) out z)
-        (f : Found) (q : foundOf f ≡ read (2 ^ m - 1) 0 (granted m t v 256) (replicate t v) (take (getD h 0 0) out)) where
-      pub writes-4 : f .generation ≡ 0 → Answers m t v x bs (4 ∷ []) bs
-      writes-4 z0 = refuses m t v x 4 bs (write-unread m t v x bs (G .ok) (sound-first G bs s) b
-          (field-read m t v (G .ok) bs (sound-first G bs s) ∙ unnumbered f _ (same-read G bs s S f q) z0))
+module _ {s : Shape} {h : List ℕ} (G : Granted s h) (x : ℕ) (bs : List ℕ) where
+  pub writes-3 : (o : ℕ) (r : Bool) → o ≡ orderOf s → r ≡ sound o (s .m) (getD h 0 0) bs → not r ≡ true → Answers s x bs (3 ∷ []) bs
+  writes-3 o r q k f = refuses s x 3 bs (write-unsound s x bs (G .ok) (sym (sound-width G bs o q) ∙ sym k ∙ not-true r f))
 
-      module _ (d : f .generation ≢ 0) where
-        pub writes-5 : f .generation ≡ t → Answers m t v x bs (5 ∷ []) bs
-        writes-5 e = refuses m t v x 5 bs (write-spent m t v x bs (G .ok) (sound-first G bs s) (f .generation) (f .number) b (field-reads G bs s S f q d) e)
+  module _ (f : sound (orderOf s) (s .m) (widthOf s) bs ≡ true) where
+    pub writes-6 : s .v ≤ x → Answers s x bs (6 ∷ []) bs
+    writes-6 l = refuses s x 6 bs (write-large s x bs (G .ok) f l)
 
-        gs : List ℕ
-        gs = take (getD h 0 0) out
+    module _ (b : x < s .v) {words : List ℕ} {n z : ℕ} {r : Field.Reading} (K : Looked s bs words n z r) where
+      field-reads : fieldRead s bs ≡ r
+      unfolding fieldRead readCells widthOf
+      field-reads = rw (K .same) at (sym (K .read))
 
-        reading : read (2 ^ m - 1) 0 (granted m t v 256) (replicate t v) gs ≡ reads (f .generation) (f .number)
-        unfolding gs
-        reading = numbered-is f _ q d
+      pub placed : (i : ℕ) → At i ≡ aimAt (s .t) r → Place s x (fieldGroups s n words) r i z
+      placed i q = place G x b (fieldGroups s n words) i z (K .none) (K .holds .many) r (sym (K .read)) q
 
-        module _ (e : f .generation ≢ t) (n : ℕ) (N : Next (f .generation) z (getD h 0 0) n) where
-          below : f .generation < t
-          below = lt-of-le-ne (read-most (2 ^ m - 1) (granted m t v 256) t v (is-layout m t v (G .ok)) (granted-length m t v 256) (omega (arith, b)) gs (f .generation) (f .number) reading) e
-
-          full : length gs ≡ getD h 0 0
-          unfolding gs
-          full = ap length (S .front) ∙ groups-length m (getD h 0 0) (wit 0 bs)
-
-          none : z ≡ zeros gs
-          unfolding gs
-          none = S .none ∙ ap zeros (sym (S .front))
-
-          -- where the write goes
-          pub record Place : Type 0 where
-            pub low : n < t
-            pub ready : Ready m t v n z (getD h 0 0) out bs
-            pub made : write (2 ^ m - 1) 0 (granted m t v 256) (replicate t v) x (take (getD h 0 0) out) ≡ wrote (suc n) (after (2 ^ m - 1) 0 (granted m t v 256) n x (take (getD h 0 0) out))
-
-          placed : (low : n < t) → (n ≡ 0 → written gs ≡ 0) → getD (granted m t v 256) n 0 ≤ z → length out ≡ 256
-              → write (2 ^ m - 1) 0 (granted m t v 256) (replicate t v) x gs ≡ wrote (suc n) (after (2 ^ m - 1) 0 (granted m t v 256) n x gs) → Place
-          unfolding gs
-          placed low blank enough room w = record {
-            low = low;
-            ready = record { right = s; given = S .front; room = omega (arith, G .small 0); first = G .each 0; none = none; blank = blank; enough = enough };
-            made = w;
-          }
-
-          pub place : length out ≡ 256 → Place
-          place room = elim (ℕ-discrete z (getD h 0 0)) [
-            | yes y ↦
-                let z0 = N .blank y in
-                let w : written gs ≡ 0 = zeros-blank gs (omega (arith, none, full)) in
-                placed (omega (arith, z0, below)) (λ i. w) (rw z0 (omega (arith, G .each 0))) room (rw z0 (first-write m t v (G .ok) x gs w b))
-            | no y ↦
-                let i = N .used y in
-                let w : 0 < written gs = omega (arith, none, full, zeros-written gs, lt-of-le-ne (omega (arith, none, full, zeros-written gs)) y) in
-                let nx = next-write m t v (G .ok) x (f .generation) (f .number) gs w b reading below in
-                let k : getD (granted m t v 256) (f .generation) 0 ≤ z = rw none (enough-left (granted m t v 256) (f .generation) gs d (nx .1)) in
-                placed (rw i below) (λ j. absurd (d (sym i ∙ j))) (rw i k) room (rw i (nx .0))
+      pub writes-not : (k : ℕ) → Refused k ≡ aimAt (s .t) r → Answers s x bs (k ∷ []) bs
+      unfolding unreadable
+      writes-not k q = go r field-reads q
+        where
+          go : (r : Field.Reading) → fieldRead s bs ≡ r → Refused k ≡ aimAt (s .t) r → Answers s x bs (k ∷ []) bs
+          go Field.blank e q = clash (cc)
+          go (Field.reads i y) e q = elim (ℕ-discrete i (s .t)) [
+            | yes t ↦ let q′ = rw (eq-eqb i (s .t) t) at q in let five : k ≡ 5 = cc in rw five (refuses s x 5 bs (write-spent s x bs (G .ok) f i y b e t))
+            | no d ↦ let q′ = rw (ne-eqb i (s .t) d) at q in clash (cc)
           ]
+          go (Field.miscounted i u) e q = let four : k ≡ 4 = cc in rw four (refuses s x 4 bs (write-unread s x bs (G .ok) f b (rw e)))
+          go (Field.beyond i) e q = let four : k ≡ 4 = cc in rw four (refuses s x 4 bs (write-unread s x bs (G .ok) f b (rw e)))
 
-          pub writes-as : (r : ℕ) (bs′ : List ℕ) → length out ≡ 256 → Rewritten 0 m (after (2 ^ m - 1) 0 (granted m t v 256) n x (take (getD h 0 0) out)) bs bs′ r
-              → Answers m t v x bs (0 ∷ (n + 1) ∷ r ∷ []) bs′
-          writes-as r bs′ room W =
-              let k : opened 0 m (getD (granted m t v 256) 0 0) bs ≡ take (getD h 0 0) out = rw (← G .each 0) (sym (S .front)) in
-              let w = write-made m t v x bs (G .ok) (sound-first G bs s) (f .generation) (f .number) (suc n) (after (2 ^ m - 1) 0 (granted m t v 256) n x (take (getD h 0 0) out)) b
-              (field-reads G bs s S f q d) e (rw k (place room .made)) in
-              (rw (add-one n, W .count, W .bytes) (sym (w .0)), W .bytes ∙ sym (w .1))
+      pub writes-as : (i turned : ℕ) (bs′ : List ℕ) → Place s x (fieldGroups s n words) r i z →
+          Stored (orderOf s) (s .m) (Field.after (2 ^ s .m - 1) (firstOf s) (countsOf s) i x (fieldGroups s n words)) bs bs′ turned →
+          Answers s x bs (0 ∷ (i + 1) ∷ turned ∷ []) bs′
+      writes-as i turned bs′ P W =
+          let after = Field.after (2 ^ s .m - 1) (firstOf s) (countsOf s) i x (fieldGroups s n words) in
+          let w = write-made s x bs (G .ok) f r (suc i) after b field-reads (P .readable) (P .unspent) (rw (← K .same) (P .made)) in
+          (rw (add-one i, W .count, W .bytes) (sym (w .0)), W .bytes ∙ sym (w .1))

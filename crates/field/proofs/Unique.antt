@@ -4,6 +4,7 @@ use mathlib.Core.Path.{_≡_, sym, ap, _∙_}
 use mathlib.Core.List.{List}
 use native.Mathlib.Omega.{arith}
 use lib.ListN.{length}
+use Rattle.code.specs.declared.Shape.{Shape}
 use Rattle.code.specs.Calls.{readReply}
 use Rattle.field.specs.declared.Reading.{Reading}
 use Rattle.field.specs.declared.Reading.the-variants.{Read, Refused}
@@ -35,9 +36,9 @@ same-writing (NotWritten k) (NotWritten k′) q =
     let a : k ≡ k′ = cc in
     rw a
 
-pub unique-reading : (m t v : ℕ) (bs : List ℕ) (r r′ : Reading) → readingOf r ≡ readReply m t v bs → readingOf r′ ≡ readReply m t v bs → r ≡ r′
-unique-reading m t v bs r r′ p q = same-reading r r′ (p ∙ sym q)
+pub unique-reading : (s : Shape) (bs : List ℕ) (r r′ : Reading) → readingOf r ≡ readReply s bs → readingOf r′ ≡ readReply s bs → r ≡ r′
+unique-reading s bs r r′ p q = same-reading r r′ (p ∙ sym q)
 
-pub unique-writing : (m t v x : ℕ) (bs after after′ : List ℕ) (r r′ : Writing)
-    → Answers m t v x bs (writingOf r) after → Answers m t v x bs (writingOf r′) after′ → (r ≡ r′) × (after ≡ after′)
-unique-writing m t v x bs after after′ r r′ p q = (same-writing r r′ (p .0 ∙ sym (q .0)), p .1 ∙ sym (q .1))
+pub unique-writing : (s : Shape) (x : ℕ) (bs after after′ : List ℕ) (r r′ : Writing)
+    → Answers s x bs (writingOf r) after → Answers s x bs (writingOf r′) after′ → (r ≡ r′) × (after ≡ after′)
+unique-writing s x bs after after′ r r′ p q = (same-writing r r′ (p .0 ∙ sym (q .0)), p .1 ∙ sym (q .1))

@@ -1,19 +1,25 @@
 -- The answers of read and write as replies, and what the functions between them cite.
-use Prim.Native.Nat.{ℕ, zero, suc, _-_, _^_, _<_, _≤_}
+use Prim.Native.Nat.{ℕ, suc, _*_, _-_, _^_, _<_, _≤_}
 use mathlib.Core.Path.{_≡_}
-use mathlib.Core.List.{List, [], _∷_}
-use mathlib.Core.Bool.{true}
-use mathlib.Core.Logic.{_≢_}
-use lib.ListN.{length, getD, take}
+use mathlib.Core.Bool.{cond}
+use mathlib.Core.List.{List, [], _∷_, _++_}
+use lib.Dec.{eqb}
+use lib.ListN.{length, getD, take, replicate}
+use Rattle.code.specs.declared.Shape.{Shape}
+use Rattle.code.specs.Shape.{firstOf, rangesOf, orderOf, countsOf, widthOf}
+use Rattle.code.specs.Cells.{opened}
 use Rattle.code.specs.Deal.{written}
-use Rattle.code.specs.Cells.{opened, sound}
 use Rattle.code.specs.Field as Field
-use Rattle.code.specs.Calls.{granted, layoutRefusal}
+use Rattle.words.specs.Words.{wordGroups, Tidy, frontGroups}
+use Rattle.words.specs.Marks.{Ends}
 use Rattle.field.specs.declared.Reading.{Reading}
 use Rattle.field.specs.declared.Reading.the-variants.{Read, Refused}
 use Rattle.field.specs.declared.Writing.{Writing}
 use Rattle.field.specs.declared.Writing.the-variants.{Written, Refused as NotWritten}
 use Rattle.field.specs.declared.Found.{Found}
+use Rattle.field.specs.declared.Found.the-variants.{Blank, Number, Miscounted, Beyond}
+use Rattle.field.specs.declared.Aim.{Aim}
+use Rattle.field.specs.declared.Aim.the-variants.{At, Refused as NotAt}
 
 -- an enum answer as document 01's numbers: 0 and the values, or the refusal
 abbrev pub readingOf : Reading → List ℕ
@@ -24,55 +30,65 @@ abbrev pub writingOf : Writing → List ℕ
 writingOf (Written generation turned) = 0 ∷ generation ∷ turned ∷ []
 writingOf (NotWritten k) = k ∷ []
 
--- what sound cells read as, generation 0 being none
-abbrev pub numbered : ℕ → ℕ → Field.Reading
-numbered zero x = Field.unread
-numbered (suc i) x = Field.reads (suc i) x
-
+-- what sound cells read as
 abbrev pub foundOf : Found → Field.Reading
-foundOf f = numbered (f .generation) (f .number)
+foundOf Blank = Field.blank
+foundOf (Number i x) = Field.reads i x
+foundOf (Miscounted i u) = Field.miscounted i u
+foundOf (Beyond i) = Field.beyond i
 
--- m, t and v are within their bounds, and h holds the granted counts and 0 behind them
-pub record Granted (m t v : ℕ) (h : List ℕ) : Type 0 where
-  pub ok : layoutRefusal m t v 256 ≡ 0
-  pub m-low : 2 ≤ m
-  pub m-high : m ≤ 4
-  pub t-low : 2 ≤ t
-  pub t-high : t ≤ 16
-  pub v-high : v ≤ 2 ^ 56
-  pub list : take t h ≡ granted m t v 256
-  pub many : length (granted m t v 256) ≡ t
-  pub each : (n : ℕ) → getD h n 0 ≡ getD (granted m t v 256) n 0
-  pub small : (n : ℕ) → getD h n 0 ≤ 256
+-- what is answered for a reading
+abbrev pub answerOf : ℕ → Field.Reading → List ℕ
+answerOf t Field.blank = 0 ∷ 1 ∷ 0 ∷ t ∷ []
+answerOf t (Field.reads i x) = 0 ∷ i ∷ x ∷ (t - i) ∷ []
+answerOf t (Field.miscounted i u) = 4 ∷ []
+answerOf t (Field.beyond i) = 4 ∷ []
 
--- the number x is read at place n where it is below v, and else nothing is
-pub record Ranged (n v x : ℕ) (r : Field.Reading) : Type 0 where
-  pub inside : x < v → r ≡ Field.reads (suc n) x
-  pub beyond : v ≤ x → r ≡ Field.unread
+-- the groups of a field in the first n words
+abbrev pub fieldGroups : Shape → ℕ → List ℕ → List ℕ
+fieldGroups s n words = take (widthOf s) (frontGroups (s .m) n words)
 
--- the writes left of t after generation i, where z of h groups are zero
-pub record Remain (t i z h r : ℕ) : Type 0 where
-  pub blank : z ≡ h → r ≡ t
-  pub used : z ≢ h → r ≡ t - i
+-- the words hold the field's groups, and behind them groups of all ones
+pub record Holds (s : Shape) (n : ℕ) (words : List ℕ) : Type 0 where
+  pub long : length words ≡ 16
+  pub ends : Ends (s .m) n (widthOf s)
+  pub tidy : Tidy (s .m) n words
+  pub many : length (fieldGroups s n words) ≡ widthOf s
+  pub padded : frontGroups (s .m) n words ≡ fieldGroups s n words ++ replicate (wordGroups (s .m) * n - widthOf s) (2 ^ s .m - 1)
 
--- the place that is written next, where z of h groups are zero
-pub record Next (i z h r : ℕ) : Type 0 where
-  pub blank : z ≡ h → r ≡ 0
-  pub used : z ≢ h → r ≡ i
+-- n words hold the groups of the bytes bs, z of them zero, which read as r
+pub record Looked (s : Shape) (bs words : List ℕ) (n z : ℕ) (r : Field.Reading) : Type 0 where
+  pub holds : Holds s n words
+  pub same : fieldGroups s n words ≡ opened (orderOf s) (s .m) (widthOf s) bs
+  pub none : z ≡ Field.zeros (fieldGroups s n words)
+  pub read : r ≡ Field.read (2 ^ s .m - 1) (firstOf s) (countsOf s) (rangesOf s) (fieldGroups s n words)
 
--- the first r places are the pattern of x at place n
-pub record Pictured (m t v n x : ℕ) (places : List ℕ) (r : ℕ) : Type 0 where
-  pub count : r ≡ getD (granted m t v 256) n 0
-  pub inside : r ≤ length places
-  pub drawn :
-      take r places ≡ Field.pattern (2 ^ m - 1) (Field.base (2 ^ m - 1) n) (Field.start 0 n) (getD (granted m t v 256) n 0) (getD (granted m t v 256) (suc n) 0) x
+-- r tells the number y, as far as 2^56
+pub record Close (y r : ℕ) : Type 0 where
+  pub exact : r < 2 ^ 56 → r ≡ y
+  pub large : 2 ^ 56 ≤ r → 2 ^ 56 ≤ y
 
--- sound cells whose first `count` groups are given, z of them zero, may be written at place n
-pub record Ready (m t v n z count : ℕ) (groups cells : List ℕ) : Type 0 where
-  pub right : sound 0 m count cells ≡ true
-  pub given : take count groups ≡ opened 0 m count cells
-  pub room : count ≤ length groups
-  pub first : count ≡ getD (granted m t v 256) 0 0
-  pub none : z ≡ Field.zeros (take count groups)
-  pub blank : n ≡ 0 → written (take count groups) ≡ 0
-  pub enough : getD (granted m t v 256) n 0 ≤ z
+-- the number x is read at place i where it is below v, and else it is beyond the range
+pub record Ranged (i v x : ℕ) (r : Field.Reading) : Type 0 where
+  pub inside : x < v → r ≡ Field.reads (suc i) x
+  pub outside : v ≤ x → r ≡ Field.beyond (suc i)
+
+-- where a reading is written next, or the refusal that is left to it
+abbrev pub aimAt : ℕ → Field.Reading → Aim
+aimAt t Field.blank = At 0
+aimAt t (Field.reads i x) = cond (eqb i t) (NotAt 5) (At i)
+aimAt t (Field.miscounted i u) = NotAt 4
+aimAt t (Field.beyond i) = NotAt 4
+
+-- groups that may be written at place i, z of them zero
+pub record Ready (s : Shape) (i z : ℕ) (gs : List ℕ) : Type 0 where
+  pub none : z ≡ Field.zeros gs
+  pub blank : i ≡ 0 → written gs ≡ 0
+  pub enough : getD (countsOf s) i 0 ≤ z
+
+-- the field's groups in the words are gs
+pub record Carries (s : Shape) (n : ℕ) (gs words : List ℕ) : Type 0 where
+  pub long : length words ≡ 16
+  pub many : length gs ≡ widthOf s
+  pub behind : List ℕ
+  pub made : frontGroups (s .m) n words ≡ gs ++ behind

@@ -1,14 +1,26 @@
 // Reading and writing one field: document 01, "Reading" and "Writing", with the refusals in the table's order.
+use code::Shape;
+use layout::Plan;
+use words::Seen;
 ghost use mathlib.Core.Path.{_≡_};
 ghost use mathlib.Core.Bool.{true};
-ghost use mathlib.Core.List.{_∷_};
-ghost use Prim.Native.Nat.{suc, _-_, _^_, _<_, _≤_};
-ghost use lib.ListN.{length, getD, take, replicate};
+ghost use mathlib.Core.List.{List};
+ghost use Prim.Native.Nat.{ℕ, suc, _+_, _-_, _^_, _<_, _≤_};
+ghost use lib.ListN.{length, getD, take};
+ghost use Rattle.code.specs.Count.{fewer};
+ghost use Rattle.code.specs.Layout.{room};
+ghost use Rattle.code.specs.Shape.{firstOf, rangesOf, orderOf, countsOf, widthOf};
 ghost use Rattle.code.specs.Cells.{sound};
+ghost use Rattle.code.specs.Deal.{written, number, deal, plain, plainly};
+ghost use Rattle.code.specs.Chosen.{patternMost};
 ghost use Rattle.code.specs.Field as Field;
-ghost use Rattle.code.specs.Calls.{filled, granted, layoutReply, readReply, writeReply, writeLeaves};
-ghost use Rattle.cells.specs.Cells.{Rewritten};
-ghost use Rattle.field.specs.Answers.{readingOf, writingOf, foundOf, Granted, Ranged, Remain, Pictured, Ready, Next};
+ghost use Rattle.code.specs.Calls.{readReply, writeReply, writeLeaves};
+ghost use Rattle.counting.specs.Cap.{cap, sat};
+ghost use Rattle.words.specs.Words.{frontGroups, frontAt};
+ghost use Rattle.words.specs.Marks.{Viewed, Pickable, ZeroMarked, Layered};
+ghost use Rattle.cells.specs.Cells.{Stored};
+ghost use Rattle.layout.specs.Plan.{Planned, Granted};
+ghost use Rattle.field.specs.Answers.{readingOf, writingOf, foundOf, answerOf, aimAt, fieldGroups, Holds, Looked, Close, Ranged, Ready, Carries};
 
 pub enum Reading {
     Read {
@@ -24,10 +36,12 @@ pub enum Writing {
     Refused(u64),
 }
 
-// What the groups of sound cells read as; generation 0 where they have no reading.
-pub struct Found {
-    pub generation: u64,
-    pub number: u64,
+// What sound cells read as, and the reason where they have no number: the unerased groups are not as many as the generation has, or the number is beyond the range.
+pub enum Found {
+    Blank,
+    Number { generation: u64, number: u64 },
+    Miscounted { generation: u64, unerased: u64 },
+    Beyond { generation: u64 },
 }
 
 // The place of the generation that z zero groups point to.
@@ -45,210 +59,468 @@ fn past(h: &[u64; 16], t: usize, z: u64) -> usize
     n
 }
 
-// The count of the generation after place n, 0 after the last.
-fn next_count(h: &[u64; 16], m: u64, t: u64, v: u64, n: usize) -> u64
-    requires { ⌜ (Granted m t v (now h)) × (n < 16) ⌝ }
-    ensures { λ r. ⌜ r ≡ getD (granted m t v 256) (suc n) 0 ⌝ }
+// The count of the generation after place i, 0 after the last.
+fn next_count(h: &[u64; 16], s: Shape, i: usize) -> u64
+    requires { ⌜ (Granted s (now h)) × (i < 16) ⌝ }
+    ensures { λ r. ⌜ r ≡ getD (countsOf s) (suc i) 0 ⌝ }
 {
-    if n == 15 {
+    if i == 15 {
         return 0;
     }
-    h[n + 1]
+    h[i + 1]
 }
 
-// The values that a written place takes at place n, and the least number of written places.
-fn base(e: u64, n: usize) -> u64
+// The values that a written place takes at place i, and the least number of written places.
+fn base(e: u64, i: usize) -> u64
     requires { ⌜ (3 ≤ e) × (e ≤ 15) ⌝ }
-    ensures { λ r. ⌜ (r ≡ Field.base e n) × (1 < r) × (r ≤ 15) ⌝ }
+    ensures { λ r. ⌜ (r ≡ Field.base e i) × (1 < r) × (r ≤ e) ⌝ }
 {
-    if n == 0 { e } else { e - 1 }
+    if i == 0 { e } else { e - 1 }
 }
 
-fn start(n: usize) -> u64
-    ensures { λ r. ⌜ (r ≡ Field.start 0 n) × (r ≤ 1) ⌝ }
+fn start(s: Shape, i: usize) -> u64
+    ensures { λ r. ⌜ (r ≡ Field.start (firstOf s) i) × (r ≤ 1) ⌝ }
 {
-    if n == 0 { 0 } else { 1 }
+    if i == 0 { layout::first(s) } else { 1 }
 }
 
-// The reading of the number x at place n, where it is in range.
-fn ranged(n: usize, v: u64, x: u64) -> Found
-    requires { ⌜ n < 16 ⌝ }
-    ensures { λ r. ⌜ Ranged n v x (foundOf r) ⌝ }
+// The number of a pattern in the marked groups.
+fn tell_pattern(
+    words: &[u64; 16],
+    marks: &[u64; 16],
+    n: usize,
+    m: usize,
+    places: u64,
+    b: u64,
+    start: u64,
+) -> u64
+    requires { ⌜ (Pickable m n (now words) (now marks)) × (places ≡ length (frontAt m n (now marks) (now words))) × (written (frontAt m n (now marks) (now words)) ≤ patternMost) × (1 < b) × (b ≤ 15) × (start ≤ 1) ⌝ }
+    ensures { λ r. ⌜ r ≡ sat (number b start (frontAt m n (now (marks .entry)) (now (words .entry)))) ⌝ }
 {
-    if v <= x {
-        return Found {
-            generation: 0,
-            number: 0,
-        };
+    let mut labels = [0u8; 64];
+    let mut values = [0u8; 64];
+    let k = words::gather(words, marks, n, m, places, &mut labels, &mut values);
+    dealing::number(&labels, &values, k, places, b, start)
+}
+
+// The number that the marked groups make as digits.
+fn tell_digits(words: &[u64; 16], marks: &[u64; 16], n: usize, m: usize, e: u64) -> u64
+    requires { ⌜ (Pickable m n (now words) (now marks)) × (length (frontAt m n (now marks) (now words)) ≤ patternMost) × (0 < e) × (e ≤ 15) ⌝ }
+    ensures { λ r. ⌜ r ≡ sat (plain e (frontAt m n (now (marks .entry)) (now (words .entry)))) ⌝ }
+{
+    let mut values = [0u8; 64];
+    let k = words::pick(words, marks, n, m, &mut values);
+    dealing::plain(&values, k, e)
+}
+
+fn less_one(x: u64) -> u64
+    ensures { λ r. ⌜ r ≡ x - 1 ⌝ }
+{
+    if x == 0 { 0 } else { x - 1 }
+}
+
+// The number that the places of a generation tell; `next` is the count of the generation after it, 0 for the last.
+fn tell(
+    words: &[u64; 16],
+    marks: &[u64; 16],
+    n: usize,
+    m: usize,
+    places: u64,
+    e: u64,
+    b: u64,
+    start: u64,
+    next: u64,
+) -> u64
+    requires { ⌜ (Pickable m n (now words) (now marks)) × (places ≡ length (frontAt m n (now marks) (now words))) ⌝ }
+    requires { ⌜ (0 < e) × (e ≤ 15) × (1 < b) × (b ≤ 15) × (start ≤ 1) ⌝ }
+    requires { ⌜ (places ≤ next + patternMost) × (next ≤ Field.zeros (frontAt m n (now marks) (now words))) ⌝ }
+    ensures { λ r. ⌜ Close (Field.told e b start next (frontAt m n (now (marks .entry)) (now (words .entry)))) r ⌝ }
+{
+    if next == 0 {
+        return less_one(tell_digits(words, marks, n, m, e));
     }
-    Found {
-        generation: n as u64 + 1,
+    tell_pattern(words, marks, n, m, places, b, start)
+}
+
+// The reading of the number x at place i, where it is in range.
+fn ranged(i: usize, v: u64, x: u64) -> Found
+    requires { ⌜ i < 16 ⌝ }
+    ensures { λ r. ⌜ Ranged i v x (foundOf r) ⌝ }
+{
+    let generation = i as u64 + 1;
+    if v <= x {
+        return Found::Beyond { generation };
+    }
+    Found::Number {
+        generation,
         number: x,
     }
 }
 
-// What `count` groups read as whose zero ones point to place n.
-fn judge(h: &[u64; 16], m: u64, t: u64, v: u64, n: usize, count: usize, groups: &[u8]) -> Found
-    requires { ⌜ Granted m t v (now h) ⌝ }
-    requires { ⌜ (count ≡ getD (granted m t v 256) 0 0) × (count ≤ length (now groups)) × (n ≡ Field.past (granted m t v 256) (Field.zeros (take count (now groups)))) × (n < t) ⌝ }
-    ensures { λ r. ⌜ foundOf r ≡ Field.read (2 ^ m - 1) 0 (granted m t v 256) (replicate t v) (take count (now (groups .entry))) ⌝ }
+// What groups read as at place i whose marked ones are its places, as many as it has.
+fn judge_at(
+    h: &[u64; 16],
+    s: Shape,
+    words: &[u64; 16],
+    marks: &[u64; 16],
+    n: usize,
+    i: usize,
+) -> Found
+    requires { ⌜ (Granted s (now h)) × (i < s .t) × (Pickable (s .m) n (now words) (now marks)) ⌝ }
+    requires { ⌜ (length (frontAt (s .m) n (now marks) (now words)) ≡ getD (countsOf s) i 0) × (getD (countsOf s) (suc i) 0 ≤ Field.zeros (frontAt (s .m) n (now marks) (now words))) ⌝ }
+    ensures { λ r. ⌜ ((gs : List ℕ) → Field.carriers (2 ^ s .m - 1) i gs ≡ frontAt (s .m) n (now (marks .entry)) (now (words .entry)) → foundOf r ≡ Field.judged (2 ^ s .m - 1) (firstOf s) (countsOf s) (rangesOf s) gs i) ⌝ }
 {
-    let e = layout::all_ones(m);
-    let next = next_count(h, m, t, v, n);
-    if n == 0 {
-        return ranged(n, v, dealing::tell(&groups[..count], e, e, 0, next));
-    }
-    let mut places = [0u8; 256];
-    let k = cells::collect(groups, count, e, &mut places);
-    if k as u64 != h[n] {
-        return Found {
-            generation: 0,
-            number: 0,
-        };
-    }
-    ranged(n, v, dealing::tell(&places[..k], e, e - 1, 1, next))
+    let e = layout::all_ones(s.m);
+    let next = next_count(h, s, i);
+    let x = tell(
+        words,
+        marks,
+        n,
+        s.m as usize,
+        h[i],
+        e,
+        base(e, i),
+        start(s, i),
+        next,
+    );
+    ranged(i, s.v, x)
 }
 
-// The writes left of t after generation i, where z of `count` groups are zero.
-fn writes_left(t: u64, i: u64, z: usize, count: usize) -> u64
-    ensures { λ r. ⌜ Remain t i z count r ⌝ }
+// Generation 1: all groups of the field are its places.
+fn judge_first(h: &[u64; 16], s: Shape, words: &[u64; 16], n: usize, marks: &mut [u64; 16]) -> Found
+    requires { ⌜ (Granted s (now h)) × (Holds s n (now words)) × (length (now marks) ≡ 16) × (getD (countsOf s) 1 0 ≤ Field.zeros (fieldGroups s n (now words))) ⌝ }
+    ensures { λ r. ⌜ foundOf r ≡ Field.judged (2 ^ s .m - 1) (firstOf s) (countsOf s) (rangesOf s) (fieldGroups s n (now (words .entry))) 0 ⌝ }
+    ensures { λ _. ⌜ length (now (marks .exit)) ≡ 16 ⌝ }
 {
-    if z == count {
-        return t;
+    words::mark_all(n, s.m as usize, h[0] as usize, marks);
+    judge_at(h, s, words, marks, n, 0)
+}
+
+// What the field's groups in words read as, of which is seen how many are zero and which are not erased.
+fn judge(
+    h: &[u64; 16],
+    s: Shape,
+    words: &[u64; 16],
+    n: usize,
+    marks: &mut [u64; 16],
+    seen: Seen,
+) -> Found
+    requires { ⌜ (Granted s (now h)) × (Holds s n (now words)) × (Viewed (s .m) n (now words) (now marks) seen) ⌝ }
+    ensures { λ r. ⌜ foundOf r ≡ Field.read (2 ^ s .m - 1) (firstOf s) (countsOf s) (rangesOf s) (fieldGroups s n (now (words .entry))) ⌝ }
+    ensures { λ _. ⌜ length (now (marks .exit)) ≡ 16 ⌝ }
+{
+    if seen.zeros == h[0] {
+        return Found::Blank;
     }
+    let i = past(h, s.t as usize, seen.zeros);
+    if i == 0 {
+        return judge_first(h, s, words, n, marks);
+    }
+    if seen.unerased != h[i] {
+        return Found::Miscounted {
+            generation: i as u64 + 1,
+            unerased: seen.unerased,
+        };
+    }
+    judge_at(h, s, words, marks, n, i)
+}
+
+// The writes left of t after generation i.
+fn writes_left(t: u64, i: u64) -> u64
+    ensures { λ r. ⌜ r ≡ t - i ⌝ }
+{
     if t < i { 0 } else { t - i }
 }
 
-// The reading of a field whose layout is granted.
-fn read_granted(h: &[u64; 16], m: u64, t: u64, v: u64, cells: &[u8]) -> Reading
-    requires { ⌜ Granted m t v (now h) ⌝ }
-    ensures { λ r. ⌜ readingOf r ≡ readReply m t v (now (cells .entry)) ⌝ }
+// A reading as it is answered: cells that were never written have generation 1, number 0 and all their writes left.
+fn answer(found: Found, t: u64) -> Reading
+    ensures { λ r. ⌜ readingOf r ≡ answerOf t (foundOf found) ⌝ }
 {
-    let count = h[0] as usize;
-    if !cells::is_sound(cells, 0, m as usize, count) {
-        return Reading::Refused(3);
-    }
-    let mut groups = [0u8; 256];
-    let z = cells::spread(cells, 0, m as usize, count, &mut groups);
-    let found = judge(h, m, t, v, past(h, t as usize, z as u64), count, &groups);
-    let generation = found.generation;
-    if generation == 0 {
-        return Reading::Refused(4);
-    }
-    Reading::Read {
-        generation,
-        number: found.number,
-        left: writes_left(t, generation, z, count),
+    match found {
+        Found::Blank => Reading::Read {
+            generation: 1,
+            number: 0,
+            left: t,
+        },
+        Found::Number { generation, number } => Reading::Read {
+            generation,
+            number,
+            left: writes_left(t, generation),
+        },
+        Found::Miscounted {
+            generation: _,
+            unerased: _,
+        } => Reading::Refused(4),
+        Found::Beyond { generation: _ } => Reading::Refused(4),
     }
 }
 
-// The reading of a field whose layout was worked out before: its refusal and its counts.
-pub fn read_by(refusal: u64, h: &[u64; 16], m: u64, t: u64, v: u64, cells: &[u8]) -> Reading
-    requires { ⌜ (refusal ∷ now h) ≡ filled 17 (layoutReply m t v 256) ⌝ }
-    ensures { λ r. ⌜ readingOf r ≡ readReply m t v (now (cells .entry)) ⌝ }
+// Sound cells in n words: how many of their groups are zero, and what they read as.
+struct Look {
+    n: usize,
+    zeros: u64,
+    found: Found,
+}
+
+fn look_at(
+    h: &[u64; 16],
+    s: Shape,
+    cells: &[u8],
+    words: &mut [u64; 16],
+    marks: &mut [u64; 16],
+) -> Look
+    requires { ⌜ (Granted s (now h)) × (sound (orderOf s) (s .m) (widthOf s) (now cells) ≡ true) ⌝ }
+    requires { ⌜ (length (now words) ≡ 16) × (length (now marks) ≡ 16) ⌝ }
+    ensures { λ r. ⌜ Looked s (now (cells .entry)) (now (words .exit)) (r .n) (r .zeros) (foundOf (r .found)) ⌝ }
+    ensures { λ _. ⌜ length (now (marks .exit)) ≡ 16 ⌝ }
 {
+    let m = s.m as usize;
+    let n = cells::load(cells, layout::order(s), m, h[0] as usize, words);
+    let seen = words::see(words, n, m, marks);
+    let found = judge(h, s, words, n, marks, seen);
+    Look {
+        n,
+        zeros: seen.zeros,
+        found,
+    }
+}
+
+// The reading of a field whose layout is granted.
+fn read_granted(h: &[u64; 16], s: Shape, cells: &[u8]) -> Reading
+    requires { ⌜ Granted s (now h) ⌝ }
+    ensures { λ r. ⌜ readingOf r ≡ readReply s (now (cells .entry)) ⌝ }
+{
+    if !cells::is_sound(cells, layout::order(s), s.m as usize, h[0] as usize) {
+        return Reading::Refused(3);
+    }
+    let mut words = [0u64; 16];
+    let mut marks = [0u64; 16];
+    let seen = look_at(h, s, cells, &mut words, &mut marks);
+    let found = seen.found;
+    answer(found, s.t)
+}
+
+// The reading of a field whose layout is worked out, with its counts in h.
+pub fn read_by(plan: Plan, h: &[u64; 16], cells: &[u8]) -> Reading
+    requires { ⌜ Planned plan (now h) ⌝ }
+    ensures { λ r. ⌜ readingOf r ≡ readReply (plan .shape) (now (cells .entry)) ⌝ }
+{
+    if plan.refusal != 0 {
+        return Reading::Refused(plan.refusal);
+    }
+    read_granted(h, plan.shape, cells)
+}
+
+pub fn read(s: Shape, cells: &[u8]) -> Reading
+    ensures { λ r. ⌜ readingOf r ≡ readReply s (now (cells .entry)) ⌝ }
+{
+    let mut h = [0u64; 16];
+    let refusal = layout::lay_into(&mut h, s, 256);
     if refusal != 0 {
         return Reading::Refused(refusal);
     }
-    read_granted(h, m, t, v, cells)
+    read_granted(&h, s, cells)
 }
 
-pub fn read(m: u64, t: u64, v: u64, cells: &[u8]) -> Reading
-    ensures { λ r. ⌜ readingOf r ≡ readReply m t v (now (cells .entry)) ⌝ }
+// Where a reading is written next, or the refusal that is left to it.
+enum Aim {
+    At(usize),
+    Refused(u64),
+}
+
+fn take_aim(found: Found, t: u64) -> Aim
+    ensures { λ r. ⌜ r ≡ aimAt t (foundOf found) ⌝ }
 {
-    let l = layout::lay_out(m, t, v, 256);
-    let h = l.h;
-    read_by(l.refusal, &h, m, t, v, cells)
+    match found {
+        Found::Blank => Aim::At(0),
+        Found::Number {
+            generation,
+            number: _,
+        } => {
+            if generation == t {
+                return Aim::Refused(5);
+            }
+            Aim::At(generation as usize)
+        }
+        Found::Miscounted {
+            generation: _,
+            unerased: _,
+        } => Aim::Refused(4),
+        Found::Beyond { generation: _ } => Aim::Refused(4),
+    }
 }
 
-// The pattern of x at place n, drawn at the front of blank places; says how many places it has.
-fn picture(places: &mut [u8], h: &[u64; 16], m: u64, t: u64, v: u64, n: usize, x: u64) -> usize
-    requires { ⌜ (Granted m t v (now h)) × (n < t) × (x < v) × (now places ≡ replicate 256 0) ⌝ }
-    ensures { λ r. ⌜ Pictured m t v n x (now (places .exit)) r ⌝ }
+// Lays the digits of a number into the zero groups.
+fn lay_plain(
+    words: &mut [u64; 16],
+    marks: &[u64; 16],
+    n: usize,
+    m: usize,
+    places: u64,
+    e: u64,
+    x: u64,
+)
+    requires { ⌜ (ZeroMarked m n (now words) (now marks)) × (places ≡ Field.zeros (frontGroups m n (now words))) × (places ≤ patternMost) ⌝ }
+    requires { ⌜ (0 < e) × (e ≤ 15) × (e ≡ 2 ^ m - 1) × (x < e ^ places) ⌝ }
+    ensures { λ _. ⌜ Layered m n (plainly e places x) (now (words .entry)) (now (words .exit)) ⌝ }
 {
-    let e = layout::all_ones(m);
-    let next = next_count(h, m, t, v, n);
-    let k = h[n] as usize;
-    dealing::draw(&mut places[..k], e, base(e, n), start(n), next, x);
-    k
+    let mut values = [0u8; 64];
+    dealing::plainly(&mut values, places as usize, e, x);
+    words::lay_digits(words, marks, n, m, &values);
 }
 
-// Sets the pattern of x at place n into cells whose `count` groups are given, z of them zero, and says how many wits that turned.
+// Lays x as a pattern into the zero groups, which are so many places.
+fn lay_dealt(
+    words: &mut [u64; 16],
+    marks: &[u64; 16],
+    n: usize,
+    m: usize,
+    places: u64,
+    b: u64,
+    start: u64,
+    x: u64,
+)
+    requires { ⌜ (ZeroMarked m n (now words) (now marks)) × (places ≡ Field.zeros (frontGroups m n (now words))) × (places ≤ 256) ⌝ }
+    requires { ⌜ (0 < b) × (b ≤ 15) × (b ≤ 2 ^ m - 1) × (start ≤ 1) × (x < cap) × (x < fewer b places start (suc places)) ⌝ }
+    ensures { λ _. ⌜ Layered m n (deal b start places x) (now (words .entry)) (now (words .exit)) ⌝ }
+{
+    let mut labels = [0u8; 64];
+    let mut values = [0u8; 64];
+    let k = dealing::deal(&mut labels, &mut values, places, b, start, x);
+    words::lay(words, marks, n, m, places, &labels, &values, k);
+}
+
+// Lays the pattern of x into the zero groups, the places of a generation; `next` is the count of the one after it, 0 for the last.
+fn lay_number(
+    words: &mut [u64; 16],
+    marks: &[u64; 16],
+    n: usize,
+    m: usize,
+    places: u64,
+    e: u64,
+    b: u64,
+    start: u64,
+    next: u64,
+    x: u64,
+)
+    requires { ⌜ (ZeroMarked m n (now words) (now marks)) × (places ≡ Field.zeros (frontGroups m n (now words))) × (places ≤ 256) × (places ≤ next + patternMost) ⌝ }
+    requires { ⌜ (0 < e) × (e ≤ 15) × (e ≡ 2 ^ m - 1) × (0 < b) × (b ≤ e) × (start ≤ 1) × (x < cap) × (x < room e b start places next) ⌝ }
+    ensures { λ _. ⌜ Layered m n (Field.pattern e b start places next x) (now (words .entry)) (now (words .exit)) ⌝ }
+{
+    if next == 0 {
+        lay_plain(words, marks, n, m, places, e, x + 1);
+        return;
+    }
+    lay_dealt(words, marks, n, m, places, b, start, x);
+}
+
+// Erases what was used and what is spare, z groups being zero, and lays the pattern of x at place i.
 fn put(
     h: &[u64; 16],
-    m: u64,
-    t: u64,
-    v: u64,
-    n: usize,
+    s: Shape,
+    i: usize,
     x: u64,
-    z: usize,
-    count: usize,
-    groups: &[u8],
-    cells: &mut [u8],
-) -> u64
-    requires { ⌜ (Granted m t v (now h)) × (n < t) × (x < v) ⌝ }
-    requires { ⌜ Ready m t v n z count (now groups) (now cells) ⌝ }
-    ensures { λ r. ⌜ Rewritten 0 m (Field.after (2 ^ m - 1) 0 (granted m t v 256) n x (take count (now (groups .entry)))) (now (cells .entry)) (now (cells .exit)) r ⌝ }
+    z: u64,
+    words: &mut [u64; 16],
+    n: usize,
+    marks: &mut [u64; 16],
+)
+    requires { ⌜ (Granted s (now h)) × (i < s .t) × (x < s .v) × (length (now marks) ≡ 16) ⌝ }
+    requires { ⌜ (Holds s n (now words)) × (Ready s i z (fieldGroups s n (now words))) ⌝ }
+    ensures { λ _. ⌜ Carries s n (Field.after (2 ^ s .m - 1) (firstOf s) (countsOf s) i x (fieldGroups s n (now (words .entry)))) (now (words .exit)) ⌝ }
 {
-    let mut places = [0u8; 256];
-    let k = picture(&mut places, h, m, t, v, n, x);
-    cells::rewrite(
-        cells,
-        0,
-        m as usize,
-        count,
-        groups,
-        layout::all_ones(m),
-        z - k,
-        &places[..k],
-    )
+    let m = s.m as usize;
+    let e = layout::all_ones(s.m);
+    let places = h[i];
+    words::erase(words, n, m, z - places, marks);
+    let next = next_count(h, s, i);
+    lay_number(
+        words,
+        marks,
+        n,
+        m,
+        places,
+        e,
+        base(e, i),
+        start(s, i),
+        next,
+        x,
+    );
 }
 
-// The place at which cells are written next that read as a generation, z of their `count` groups being zero.
-fn place_after(generation: u64, z: usize, count: usize) -> usize
-    ensures { λ r. ⌜ Next generation z count r ⌝ }
+// The write at place i of a number in range on sound cells, whose groups the words hold.
+fn write_at(
+    h: &[u64; 16],
+    s: Shape,
+    i: usize,
+    x: u64,
+    z: u64,
+    words: &mut [u64; 16],
+    n: usize,
+    marks: &mut [u64; 16],
+    cells: &mut [u8],
+) -> u64
+    requires { ⌜ (Granted s (now h)) × (i < s .t) × (x < s .v) × (length (now marks) ≡ 16) ⌝ }
+    requires { ⌜ (Holds s n (now words)) × (Ready s i z (fieldGroups s n (now words))) × (sound (orderOf s) (s .m) (widthOf s) (now cells) ≡ true) ⌝ }
+    ensures { λ r. ⌜ Stored (orderOf s) (s .m) (Field.after (2 ^ s .m - 1) (firstOf s) (countsOf s) i x (fieldGroups s n (now (words .entry)))) (now (cells .entry)) (now (cells .exit)) r ⌝ }
 {
-    if z == count { 0 } else { generation as usize }
+    put(h, s, i, x, z, words, n, marks);
+    cells::store(cells, layout::order(s), s.m as usize, h[0] as usize, words)
 }
 
 // The write of a number in range on sound cells.
-fn write_sound(h: &[u64; 16], m: u64, t: u64, v: u64, cells: &mut [u8], number: u64) -> Writing
-    requires { ⌜ (Granted m t v (now h)) × (number < v) × (sound 0 m (getD (now h) 0 0) (now cells) ≡ true) ⌝ }
-    ensures { λ r. ⌜ (writingOf r ≡ writeReply m t v number (now (cells .entry))) × (now (cells .exit) ≡ writeLeaves m t v number (now (cells .entry))) ⌝ }
+fn write_sound(h: &[u64; 16], s: Shape, cells: &mut [u8], x: u64) -> Writing
+    requires { ⌜ (Granted s (now h)) × (x < s .v) × (sound (orderOf s) (s .m) (widthOf s) (now cells) ≡ true) ⌝ }
+    ensures { λ r. ⌜ (writingOf r ≡ writeReply s x (now (cells .entry))) × (now (cells .exit) ≡ writeLeaves s x (now (cells .entry))) ⌝ }
 {
-    let count = h[0] as usize;
-    let mut groups = [0u8; 256];
-    let z = cells::spread(cells, 0, m as usize, count, &mut groups);
-    let found = judge(h, m, t, v, past(h, t as usize, z as u64), count, &groups);
-    let generation = found.generation;
-    if generation == 0 {
-        return Writing::Refused(4);
-    }
-    if generation == t {
-        return Writing::Refused(5);
-    }
-    let n = place_after(generation, z, count);
-    let turned = put(h, m, t, v, n, number, z, count, &groups, cells);
-    Writing::Written {
-        generation: n as u64 + 1,
-        turned,
+    let mut words = [0u64; 16];
+    let mut marks = [0u64; 16];
+    let seen = look_at(h, s, cells, &mut words, &mut marks);
+    let found = seen.found;
+    let aim = take_aim(found, s.t);
+    match aim {
+        Aim::At(i) => {
+            let turned = write_at(
+                h,
+                s,
+                i,
+                x,
+                seen.zeros,
+                &mut words,
+                seen.n,
+                &mut marks,
+                cells,
+            );
+            Writing::Written {
+                generation: i as u64 + 1,
+                turned,
+            }
+        }
+        Aim::Refused(k) => Writing::Refused(k),
     }
 }
 
-pub fn write(m: u64, t: u64, v: u64, cells: &mut [u8], number: u64) -> Writing
-    ensures { λ r. ⌜ (writingOf r ≡ writeReply m t v number (now (cells .entry))) × (now (cells .exit) ≡ writeLeaves m t v number (now (cells .entry))) ⌝ }
+// The write on a field whose layout is granted.
+fn write_granted(h: &[u64; 16], s: Shape, cells: &mut [u8], x: u64) -> Writing
+    requires { ⌜ Granted s (now h) ⌝ }
+    ensures { λ r. ⌜ (writingOf r ≡ writeReply s x (now (cells .entry))) × (now (cells .exit) ≡ writeLeaves s x (now (cells .entry))) ⌝ }
 {
-    let l = layout::lay_out(m, t, v, 256);
-    let refusal = l.refusal;
+    if !cells::is_sound(cells, layout::order(s), s.m as usize, h[0] as usize) {
+        return Writing::Refused(3);
+    }
+    if s.v <= x {
+        return Writing::Refused(6);
+    }
+    write_sound(h, s, cells, x)
+}
+
+pub fn write(s: Shape, cells: &mut [u8], x: u64) -> Writing
+    ensures { λ r. ⌜ (writingOf r ≡ writeReply s x (now (cells .entry))) × (now (cells .exit) ≡ writeLeaves s x (now (cells .entry))) ⌝ }
+{
+    let mut h = [0u64; 16];
+    let refusal = layout::lay_into(&mut h, s, 256);
     if refusal != 0 {
         return Writing::Refused(refusal);
     }
-    let h = l.h;
-    if !cells::is_sound(cells, 0, m as usize, h[0] as usize) {
-        return Writing::Refused(3);
-    }
-    if v <= number {
-        return Writing::Refused(6);
-    }
-    write_sound(&h, m, t, v, cells, number)
+    write_granted(&h, s, cells, x)
 }

@@ -1,5 +1,8 @@
-pub mod Search
+pub mod Least
+pub mod Last
+pub mod Pascal
 pub mod Tail
 pub mod Reply
 pub mod Demand
 pub mod Unique
+pub mod Planning

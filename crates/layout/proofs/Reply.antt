@@ -1,39 +1,45 @@
--- What `grant` answers, with e for 2^m − 1: each next count, r, at place j, is stored or refused.
+-- What `grant` answers, with e for 2^m − 1: each next count, r, at place j, is stored or refused; before generation 1 it is refused at g too, since more is
+-- to come.
 use Prim.Native.Nat.{ℕ, suc, _-_, _^_, _≤_, _<_}
 use mathlib.Core.Path.{_≡_}
 use mathlib.Core.Bool.{false}
 use mathlib.Core.List.{List, _∷_}
 use native.Mathlib.Omega.{arith}
-use lib.ListN.{getD, set, replicate, getD-replicate}
+use lib.ListN.{getD, set, replicate}
 use Rattle.code.specs.Layout.{room, grant}
-use Rattle.code.specs.Calls.{filled, outside, granted, layoutReply}
-use Rattle.code.proofs.LayoutReply.{reply-refused, reply-granted}
-use Rattle.layout.specs.Search.{Least}
-use Rattle.layout.proofs.Tail.{Tail, none-fits, tail-more, filled-more, head-more, over}
+use Rattle.code.specs.declared.Shape.{Shape}
+use Rattle.code.specs.Shape.{firstOf, rangesOf, outside, granted}
+use Rattle.code.specs.Calls.{filled, layoutFields, layoutReply}
+use Rattle.code.proofs.LayoutCall.{range-at, reply-refused, reply-granted}
+use Rattle.layout.specs.Climb.{Least}
+use Rattle.layout.proofs.Tail.{Tail, none-fits, tail-more, filled-more, head-more, over, at-least}
 
 -- the range of each generation
-same-range : (t v i j : ℕ) → i ≤ t → i ≡ suc j → getD (replicate t v) j 0 ≡ v
-same-range t v i j h q = getD-replicate t j v 0 (omega arith)
+same-range : (s : Shape) (i j : ℕ) → i ≤ s .t → i ≡ suc j → getD (rangesOf s) j 0 ≡ s .v
+same-range s i j h q = range-at s j (omega arith)
 
-module _ {t v g e i low r : ℕ} {h : List ℕ} (m : ℕ) (o : outside m t v g ≡ false) (q : e ≡ 2 ^ m - 1) (T : Tail g e t (replicate t v) i low h) (j : ℕ) (next : i ≡ suc j) where
+module _ {g e i low r : ℕ} {h : List ℕ} (s : Shape) (o : outside s g ≡ false) (q : e ≡ 2 ^ s .m - 1) (T : Tail g e (s .t) (rangesOf s) i low h) (j : ℕ)
+    (next : i ≡ suc j) where
   -- before generation 1
-  module _ (L : Least (λ x. room e (e - 1) 1 x low) v low g r) where
-    pub stored : r ≤ g → Tail g e t (replicate t v) j r (set h j r)
-    stored = tail-more T j next (same-range t v i j (T .within) next) L
+  module _ (L : Least (λ x. room e (e - 1) 1 x low) (s .v) low r) where
+    pub stored : r ≤ g → Tail g e (s .t) (rangesOf s) j r (set h j r)
+    stored = tail-more T j next (same-range s i j (T .within) next) L
 
-    pub refused : 0 < j → g < r → 2 ∷ replicate 16 0 ≡ filled 17 (layoutReply m t v g)
+    pub refused : 0 < j → g ≤ r → 2 ∷ replicate 16 0 ≡ filled layoutFields (layoutReply s g)
     unfolding granted grant
-    refused p f = reply-refused m t v g o (rw q at (none-fits g e e 0 (replicate t v) j p (over (e - 1) 1 T j next (same-range t v i j (T .within) next) L f)))
+    refused p f =
+        let some = at-least (e - 1) 1 T j next (same-range s i j (T .within) next) L f in
+        reply-refused s g o (rw q at (none-fits g e e (firstOf s) (rangesOf s) j p (omega (arith, T .many, T .within)) some))
 
   -- at generation 1
-  module _ (z : j ≡ 0) (L : Least (λ x. room e e 0 x low) v low g r) where
-    pub first-stored : r ≤ g → t ≤ 16 → 0 ∷ set h 0 r ≡ filled 17 (layoutReply m t v g)
+  module _ (z : j ≡ 0) (L : Least (λ x. room e e (firstOf s) x low) (s .v) low r) where
+    pub first-stored : r ≤ g → s .t ≤ 16 → 0 ∷ set h 0 r ≡ filled layoutFields (layoutReply s g)
     unfolding granted grant
-    first-stored f s =
-        let list = rw z at (filled-more e 0 T j next (same-range t v i j (T .within) next) L f) in
-        let head = rw (z, q) at (head-more e 0 T j next (same-range t v i j (T .within) next) L f) in
-        rw (list, q) (reply-granted m t v g o (omega (arith, f, head)) s)
+    first-stored f l =
+        let list = rw z at (filled-more e (firstOf s) T j next (same-range s i j (T .within) next) L f) in
+        let head = rw (z, q) at (head-more e (firstOf s) T j next (same-range s i j (T .within) next) L f) in
+        rw (list, q) (reply-granted s g o (omega (arith, f, head)) l)
 
-    pub first-refused : g < r → 2 ∷ replicate 16 0 ≡ filled 17 (layoutReply m t v g)
+    pub first-refused : g < r → 2 ∷ replicate 16 0 ≡ filled layoutFields (layoutReply s g)
     unfolding granted grant
-    first-refused f = reply-refused m t v g o (rw (z, q) at (over e 0 T j next (same-range t v i j (T .within) next) L f))
+    first-refused f = reply-refused s g o (rw (z, q) at (over e (firstOf s) T j next (same-range s i j (T .within) next) L f))

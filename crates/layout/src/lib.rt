@@ -1,12 +1,14 @@
 // Document 01, "Layout": the granted list, the last count found first, each from the one after it.
+use code::Shape;
 ghost use mathlib.Core.Path.{_≡_};
 ghost use mathlib.Core.Bool.{false};
 ghost use mathlib.Core.List.{_∷_};
-ghost use Prim.Native.Nat.{ℕ, _+_, _-_, _^_, _<_, _≤_};
+ghost use Prim.Native.Nat.{_+_, _*_, _-_, _^_, _<_, _≤_};
 ghost use lib.ListN.{replicate};
-ghost use Rattle.code.specs.Calls.{filled, outside, layoutReply};
-ghost use Rattle.counting.specs.Cap.{cap, sat};
-ghost use Rattle.layout.specs.Search.{held, Least};
+ghost use Rattle.code.specs.Shape.{firstOf, orderOf, outside};
+ghost use Rattle.code.specs.Calls.{filled, layoutFields, layoutReply};
+ghost use Rattle.counting.specs.Cap.{cap};
+ghost use Rattle.layout.specs.Climb.{held, Least, Climbed, Asked, Short};
 
 // The largest range.
 const V_MAX: u64 = 0x0100_0000_0000_0000;
@@ -16,6 +18,26 @@ const V_MAX: u64 = 0x0100_0000_0000_0000;
 pub struct Layout {
     pub refusal: u64,
     pub h: [u64; 16],
+}
+
+// Whose layout with g = 256 is worked out, and its refusal. Its counts stand in an array beside it, which is lent and not copied.
+pub struct Plan {
+    pub shape: Shape,
+    pub refusal: u64,
+}
+
+// The least number of places that generation 1 writes.
+pub fn first(s: Shape) -> u64
+    ensures { λ r. ⌜ (r ≡ firstOf s) × (r ≤ 1) ⌝ }
+{
+    0
+}
+
+// The order of the bits in a byte.
+pub fn order(s: Shape) -> u64
+    ensures { λ r. ⌜ r ≡ orderOf s ⌝ }
+{
+    0
 }
 
 // 2^m − 1
@@ -29,112 +51,163 @@ pub fn all_ones(m: u64) -> u64
 // The least count of the last generation, by condition d.
 fn last_count(e: u64, v: u64) -> u64
     requires { ⌜ (3 ≤ e) × (e ≤ 15) × (2 ≤ v) × (v < cap) ⌝ }
-    ensures { λ r. ⌜ ((g : ℕ) → Least (λ x. e ^ x - 1) v 0 g r) ⌝ }
+    ensures { λ r. ⌜ Least (λ x. e ^ x - 1) v 0 r ⌝ }
 {
-    let mut x: u64 = 1;
-    let mut p = e;
+    let square = e * e;
+    let mut x: u64 = 0;
+    let mut p = square;
     while p <= v {
-        p *= e;
-        x += 1;
+        p *= square;
+        x += 2;
     }
-    x
+    if v * e < p {
+        return x + 1;
+    }
+    x + 2
 }
 
-// The patterns of x groups that leave low of them zero: the sums of conditions b and c.
-fn patterns(b: u64, first: u64, low: u64, x: u64) -> u64
-    requires { ⌜ (0 < b) × (b ≤ 15) × (first ≤ 1) × (low ≤ x) × (x ≤ 256) ⌝ }
-    ensures { λ r. ⌜ r ≡ sat (held b first low x) ⌝ }
+// The least number whose product with b is at least need.
+fn least_factor(b: u64, need: u64) -> u64
+    requires { ⌜ (0 < b) × (0 < need) × (need ≤ cap) ⌝ }
+    ensures { λ r. ⌜ (need ≤ r * b) × (r * b < need + b) ⌝ }
 {
-    counting::fewer(b, first, x, x - low + 1)
+    (need - 1) / b + 1
 }
 
-// A step up from low that has room for v, if it does not lead above g. It need not be the least.
-fn wide_step(b: u64, low: u64, guess: u64, v: u64, g: u64) -> u64
-    requires { ⌜ (0 < b) × (b ≤ 15) × (guess ≤ 256) × (v < cap) × (low ≤ g) × (g ≤ 256) ⌝ }
-    ensures { λ r. ⌜ (r ≤ 257) × (low + r ≤ g → v ≤ held b 1 low (low + r)) ⌝ }
+// The patterns of low + d groups: those of at most d written places, those of d, and those of d + 1 before the value of the last is chosen.
+struct Sum {
+    all: u64,
+    term: u64,
+    more: u64,
+}
+
+// One place up, by Pascal's rule.
+fn grow(b: u64, low: u64, d: u64, s: Sum) -> Sum
+    requires { ⌜ (0 < b) × (low ≤ 255) × ((s .all + s .more) * b < cap) ⌝ }
+    requires { ⌜ Climbed b low d (s .all) (s .term) (s .more) ⌝ }
+    ensures { λ r. ⌜ Climbed b low (d + 1) (r .all) (r .term) (r .more) ⌝ }
 {
-    let mut d = guess;
-    while low + d <= g {
-        if v <= patterns(b, 1, low, low + d) {
-            return d;
-        }
+    let all = s.all + (s.all + s.more) * b;
+    let term = (s.term + s.more) * b;
+    let more = term * low / (d + 2);
+    Sum { all, term, more }
+}
+
+// Where d places above low do not reach need, one more does.
+fn reached(low: u64, d: u64, all: u64, need: u64) -> u64
+    requires { ⌜ (low ≤ 255) × (d ≤ cap) ⌝ }
+    ensures { λ r. ⌜ (all < need → r ≡ low + d + 1) × (need ≤ all → r ≡ low + d) ⌝ }
+{
+    if all < need {
+        return low + d + 1;
+    }
+    low + d
+}
+
+// The climb from `from` places above low on. Equal ranges take at most 15 places.
+fn climb_on(b: u64, low: u64, need: u64, cut: u64, start: Sum, from: u64) -> u64
+    requires { ⌜ Asked b low need cut ⌝ }
+    requires { ⌜ (Climbed b low from (start .all) (start .term) (start .more)) × Short b low need from ⌝ }
+    ensures { λ r. ⌜ Least (held b 0 low) need low r ⌝ }
+{
+    let mut s = start;
+    let mut d = from;
+    while s.all + s.more < cut {
+        s = grow(b, low, d, s);
         d += 1;
     }
-    d
+    reached(low, d, s.all, need)
 }
 
-// The least count above low that has room for v, or g + 1 where that is above g. A step of d up from low has room for v, if it does not lead above g.
-fn count(b: u64, first: u64, low: u64, d: u64, v: u64, g: u64) -> u64
-    requires { ⌜ (0 < b) × (b ≤ 15) × (first ≤ 1) × (d ≤ 257) × (2 ≤ v) × (v < cap) × (low ≤ g) × (g ≤ 256) ⌝ }
-    requires { ⌜ (low + d ≤ g → v ≤ held b first low (low + d)) ⌝ }
-    ensures { λ r. ⌜ Least (held b first low) v low g r ⌝ }
+// The least count above low that has need patterns with low groups zero, the one with no written place among them.
+fn climb(b: u64, low: u64, need: u64, cut: u64) -> u64
+    requires { ⌜ Asked b low need cut ⌝ }
+    ensures { λ r. ⌜ Least (held b 0 low) need low r ⌝ }
 {
-    let mut x = low + d;
-    if g < x {
-        if patterns(b, first, low, g) < v {
-            return g + 1;
+    let mut s = Sum {
+        all: 1,
+        term: 1,
+        more: low,
+    };
+    let mut d: u64 = 0;
+    // So few turns are laid out one behind the other by the compiler, and each divides by a constant.
+    while d < 16 {
+        if cut <= s.all + s.more {
+            return reached(low, d, s.all, need);
         }
-        x = g;
+        s = grow(b, low, d, s);
+        d += 1;
     }
-    while v <= patterns(b, first, low, x - 1) {
-        x -= 1;
-    }
-    x
+    climb_on(b, low, need, cut, s, d)
 }
 
-fn refuse(n: u64) -> Layout
-    ensures { λ r. ⌜ (r .refusal ∷ r .h) ≡ n ∷ replicate 16 0 ⌝ }
+// Refusal 2, with no count left.
+fn refuse(h: &mut [u64; 16]) -> u64
+    ensures { λ r. ⌜ (r ∷ now (h .exit)) ≡ 2 ∷ replicate 16 0 ⌝ }
 {
-    let h = [0u64; 16];
-    Layout { refusal: n, h }
+    *h = [0u64; 16];
+    2
 }
 
 // The layout within the bounds.
-fn grant(m: u64, t: usize, v: u64, g: u64) -> Layout
-    requires { ⌜ (2 ≤ m) × (m ≤ 4) × (2 ≤ t) × (t ≤ 16) × (2 ≤ v) × (v < cap) × (g ≤ 256) ⌝ }
-    requires { ⌜ outside m t v g ≡ false ⌝ }
-    ensures { λ r. ⌜ (r .refusal ∷ r .h) ≡ filled 17 (layoutReply m t v g) ⌝ }
+fn grant(h: &mut [u64; 16], s: Shape, g: u64) -> u64
+    requires { ⌜ (2 ≤ s .m) × (s .m ≤ 4) × (2 ≤ s .t) × (s .t ≤ 16) × (2 ≤ s .v) × (s .v < cap) × (g ≤ 256) ⌝ }
+    requires { ⌜ (outside s g ≡ false) × (now h ≡ replicate 16 0) ⌝ }
+    ensures { λ r. ⌜ (r ∷ now (h .exit)) ≡ filled layoutFields (layoutReply s g) ⌝ }
 {
-    let e = all_ones(m);
+    let v = s.v;
+    let e = all_ones(s.m);
     let mut low = last_count(e, v);
-    if g < low {
-        return refuse(2);
+    if g <= low {
+        return refuse(h);
     }
-    let mut h = [0u64; 16];
-    let mut i = t - 1;
+    let mut i = s.t as usize - 1;
     h[i] = low;
-    // Two fifths are a good guess of the first step; from a generation to the one before it the step does not grow.
-    let mut d = wide_step(e - 1, low, low * 2 / 5 + 1, v, g);
+    // From generation 2 on the pattern with no written place holds no number, so one more than v is needed.
+    let need = v + 1;
+    let cut = least_factor(e - 1, need);
     while 1 < i {
-        let x = count(e - 1, 1, low, d, v, g);
-        if g < x {
-            return refuse(2);
+        low = climb(e - 1, low, need, cut);
+        if g <= low {
+            return refuse(h);
         }
-        d = x - low;
-        low = x;
         i -= 1;
-        h[i] = x;
+        h[i] = low;
     }
-    let x = count(e, 0, low, d, v, g);
+    let opening = v + first(s);
+    let x = climb(e, low, opening, least_factor(e, opening));
     if g < x {
-        return refuse(2);
+        return refuse(h);
     }
     h[0] = x;
-    Layout { refusal: 0, h }
+    0
 }
 
-fn outside(m: u64, t: u64, v: u64, g: u64) -> bool
-    ensures { λ r. ⌜ r ≡ outside m t v g ⌝ }
+fn outside(s: Shape, g: u64) -> bool
+    ensures { λ r. ⌜ r ≡ outside s g ⌝ }
 {
-    !(((2 <= m) & (m <= 4)) & ((2 <= t) & (t <= 16)) & ((2 <= v) & (v <= V_MAX)) & (g <= 256))
+    !(((2 <= s.m) & (s.m <= 4))
+        & ((2 <= s.t) & (s.t <= 16))
+        & ((2 <= s.v) & (s.v <= V_MAX))
+        & (g <= 256))
 }
 
-// The layout of m, t and v in g groups, or why there is none.
-pub fn lay_out(m: u64, t: u64, v: u64, g: u64) -> Layout
-    ensures { λ r. ⌜ (r .refusal ∷ r .h) ≡ filled 17 (layoutReply m t v g) ⌝ }
+// The refusal of a shape in g groups, 0 where its layout is granted; the counts go into h, which is lent as zeros.
+pub fn lay_into(h: &mut [u64; 16], s: Shape, g: u64) -> u64
+    requires { ⌜ now h ≡ replicate 16 0 ⌝ }
+    ensures { λ r. ⌜ (r ∷ now (h .exit)) ≡ filled layoutFields (layoutReply s g) ⌝ }
 {
-    if outside(m, t, v, g) {
-        return refuse(1);
+    if outside(s, g) {
+        return 1;
     }
-    grant(m, t as usize, v, g)
+    grant(h, s, g)
+}
+
+// The layout of a shape in g groups, or why there is none.
+pub fn lay_out(s: Shape, g: u64) -> Layout
+    ensures { λ r. ⌜ (r .refusal ∷ r .h) ≡ filled layoutFields (layoutReply s g) ⌝ }
+{
+    let mut h = [0u64; 16];
+    let refusal = lay_into(&mut h, s, g);
+    Layout { refusal, h }
 }

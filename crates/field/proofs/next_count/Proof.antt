@@ -12,7 +12,7 @@ next-count-spec =
     tie.close
     (tie.spec
     -- returns
-    (λ c. sym (none-behind _ _ _ _ _ (c .before .pre .0) (omega arith)))
+    (λ c. sym (none-behind _ _ _ (c .before .pre .0) (omega arith)))
     (λ c. search needs)
     (λ c. search needs)
     (λ c. search needs)

@@ -1,10 +1,9 @@
--- `field::put` meets its contract: the groups left are those of the rules, told by every byte, and the wits turned are counted.
--- Assumes nothing.
-use mathlib.Core.Path.{refl, sym}
+-- `field::put` meets its contract. Assumes nothing.
 use native.Mathlib.Omega.{arith}
 use borrow.Author.Needs.{needs}
-use lib.Seq.{length-take-le}
-use Rattle.field.proofs.Drawing.{rewritable, leaves}
+use Rattle.code.proofs.LayoutCall.{counts-near}
+use Rattle.code.proofs.WriteCall.{room-for}
+use Rattle.field.proofs.Laying.{places-fit, places-are, put-is}
 use Rattle.field.proofs.put.Statement.{statement}
 use Rattle.field.proofs.put.Tie as tie
 
@@ -12,22 +11,35 @@ pub put-spec : {M : Type 1} → statement M
 put-spec =
     tie.close
     (tie.spec
-    (λ c. search needs)
-    -- picture-requires
-    (λ c κs. let s = c .before .before .before in (s .pre .0 .0, s .pre .0 .1, s .pre .0 .2, refl))
     (λ c κs. search needs)
-    -- sub-rewrite
-    (λ c. let s = c .before .before .before .before .before .before .before in omega (arith, c .before .before .before .picture .ensures .count, s .pre .1 .enough))
-    -- array-share-prefix-places
-    (λ c. c .before .before .before .picture .ensures .inside)
-    -- slice-aggregate-rewrite
-    (λ c. sym (length-take-le _ _ (c .before .before .before .before .picture .ensures .inside)))
-    -- rewrite-requires
-    (λ c κs.
-    let s = c .before .before .before .before .before .before .before .before in
-    rewritable (s .pre .0 .0) (s .pre .0 .1) (s .pre .1) (s .pre .0 .2) (c .before .before .before .before .picture .ensures) _ (c .before .all-ones .ensures .0))
     (λ c. search needs)
+    (λ c. search needs)
+    -- sub-erase
+    (λ c. let a = c .before .before .before in omega (arith, places-fit (a .pre .0 .0) (a .pre .1 .0) (a .pre .1 .1)))
+    (λ c κs. search needs)
+    (λ c κs. search needs)
+    (λ c κs. search needs)
+    (λ c κs. search needs)
+    -- lay-number-requires
+    (λ c κs.
+    let a = c .before .before .before .before .before .before .before .before .before .before in
+    let G = a .pre .0 .0 in
+    let i = a .args .i in
+    let E = c .before .before .before .before .before .erase .ensures in
+    let e = c .before .before .before .before .before .before .before .before .before .all-ones .ensures in
+    let n = c .before .before .before .before .next-count .ensures in
+    let o = c .before .base .ensures in
+    let t = c .start .ensures in
+    let r = room-for (a .args .s) (G .ok) i (a .args .x) (a .pre .0 .1) (a .pre .0 .2) in (
+      (E .ready, places-are G (a .pre .1 .0) (a .pre .1 .1) E, G .small i, omega (arith, G .each i, counts-near (a .args .s) (G .ok) i, n)),
+      (omega (arith, e .1), e .2, e .0, omega (arith, o .1), o .2, t .1, omega (arith, a .pre .0 .2, G .v-high), rw (o .0, e .0, t .0, n, G .each i) r),
+    ))
     -- returns
     (λ c.
-    let s = c .before .before .before .before .before .before .before .before .before .before .before in
-    leaves (s .pre .0 .0) (s .pre .0 .1) (s .pre .1) (s .pre .0 .2) (c .before .before .before .before .before .before .before .picture .ensures) _ _ _ (c .before .before .before .before .all-ones .ensures .0) (c .before .before .rewrite .ensures)))
+    let a = c .before .before .before .before .before .before .before .before .before .before .before in
+    let G = a .pre .0 .0 in
+    let E = c .before .before .before .before .before .before .erase .ensures in
+    let e = c .before .before .before .before .before .before .before .before .before .before .all-ones .ensures .0 in
+    let n = c .before .before .before .before .before .next-count .ensures in
+    let o = c .before .before .base .ensures .0 in
+    put-is G (a .pre .1 .0) (a .pre .1 .1) E _ _ _ (rw (o, e, c .before .start .ensures .0, n, G .each (a .args .i))) (c .lay-number .ensures)))

@@ -1,8 +1,8 @@
 -- `field::ranged` meets its contract. Assumes nothing.
-use mathlib.Core.Path.{refl}
 use native.Mathlib.Omega.{arith}
-use native.Mathlib.Numerals.{add-one}
 use borrow.Author.Needs.{needs}
+use mathlib.Core.Path.{refl}
+use native.Mathlib.Numerals.{add-one}
 use Rattle.field.proofs.ranged.Statement.{statement}
 use Rattle.field.proofs.ranged.Tie as tie
 
@@ -10,6 +10,8 @@ pub ranged-spec : {M : Type 1} → statement M
 ranged-spec =
     tie.close
     (tie.spec
-    (λ c. record { inside = λ l. absurd (omega arith); beyond = λ l. refl })
     (λ c. search needs)
-    (λ c. record { inside = λ l. rw (add-one _); beyond = λ l. absurd (omega arith) }))
+    -- returns
+    (λ c. rw add-one (record { inside = λ h. absurd (omega arith); outside = λ h. refl }))
+    -- returns-2
+    (λ c. rw add-one (record { inside = λ h. refl; outside = λ h. absurd (omega arith) })))

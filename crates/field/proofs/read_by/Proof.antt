@@ -1,8 +1,7 @@
--- `field::read_by` meets its contract: a refused layout's number, or the reading by its counts.
--- Assumes nothing.
+-- `field::read_by` meets its contract. Assumes nothing.
 use borrow.Author.Needs.{needs}
-use Rattle.field.proofs.Laws.{granted-is}
-use Rattle.field.proofs.Replying.{reads-refused}
+use Rattle.layout.proofs.Planning.{plan-granted}
+use Rattle.field.proofs.Judging.{reads-refused}
 use Rattle.field.proofs.read_by.Statement.{statement}
 use Rattle.field.proofs.read_by.Tie as tie
 
@@ -10,6 +9,9 @@ pub read-by-spec : {M : Type 1} → statement M
 read-by-spec =
     tie.close
     (tie.spec
-    (λ c. reads-refused _ _ _ _ _ (c .before .before .args .cells .now) (c .before .before .pre) (c .if1 .taken))
-    (λ c κs. granted-is _ _ _ _ _ (c .before .before .pre) (c .if1 .left))
+    -- returns
+    (λ c. reads-refused _ _ (c .before .before .before .pre .right) (c .if1 .taken))
+    -- read-granted-requires
+    (λ c κs. plan-granted _ (c .before .before .before .pre .right) (c .if1 .left))
+    -- returns-2
     (λ c. search needs))

@@ -1,41 +1,41 @@
--- `field::read_granted` meets its contract: each answer is the reply of the first test that holds, or the reading.
--- Assumes nothing.
-use mathlib.Core.Path.{sym, _∙_}
+-- `field::read_granted` meets its contract. Assumes nothing.
 use native.Mathlib.Omega.{arith}
 use borrow.Author.Needs.{needs}
+use mathlib.Core.Path.{_≡_, refl, sym, _∙_}
+use mathlib.Core.Bool.{true}
 use borrow.Author.Tests.{not-false}
-use Rattle.field.proofs.Replying.{past-asks, reads-3, holds, judge-asks, reads-4, reads-as}
+use denote.Ref.{now}
+use Rattle.code.specs.Shape.{orderOf, widthOf}
+use Rattle.code.specs.Cells.{sound}
+use Rattle.field.proofs.Judging.{sound-width, reads-3, reads-as}
 use Rattle.field.proofs.read_granted.Statement.{statement}
 use Rattle.field.proofs.read_granted.Tie as tie
+
+-- the cells are sound where no refusal returned
+right : (c : tie.Else1) → let a = c .before .before .before .before .before .args in sound (orderOf (a .s)) (a .s .m) (widthOf (a .s)) (now (a .cells)) ≡ true
+right c =
+    let a = c .before .before .before .before .before in
+    sym (sound-width (a .pre) (now (a .args .cells)) _ (c .before .before .before .order .ensures)) ∙ sym (c .before .is-sound .ensures)
+    ∙ not-false _ (c .if1 .left)
 
 pub read-granted-spec : {M : Type 1} → statement M
 read-granted-spec =
     tie.close
     (tie.spec
+    (λ c κs. search needs)
     (λ c. search needs)
     -- is-sound-requires
-    (λ c κs. let G = c .before .before .pre in omega (arith, G .small 0))
+    (λ c κs. let G = c .before .before .before .pre in (G .m-high, G .small 0))
     -- returns
-    (λ c. reads-3 (c .before .before .before .before .pre) (c .before .before .before .before .args .cells .now) _ (c .before .is-sound .ensures) (c .if1 .taken))
-    (λ c. search needs)
-    -- spread-requires
-    (λ c κs. let s = c .before .before .before .before .before in (holds (s .pre) (s .args .cells .now) (sym (c .before .before .is-sound .ensures) ∙ not-false _ (c .before .if1 .left)), s .pre .small 0))
-    -- past-requires
-    (λ c κs. past-asks (c .before .before .before .before .before .before .before .pre))
-    (λ c. search needs)
-    -- judge-requires
-    (λ c κs.
-    let s = c .before .before .before .before .before .before .before .before .before in
-    let right = sym (c .before .before .before .before .before .before .is-sound .ensures) ∙ not-false _ (c .before .before .before .before .before .if1 .left) in
-    (s .pre, (s .pre .each 0, omega (arith, s .pre .small 0), judge-asks (s .pre) (s .args .cells .now) right (c .before .before .before .spread .ensures) _ (c .before .past .ensures .0), c .before .past .ensures .1)))
+    (λ c.
+    let a = c .before .before .before .before .before in
+    reads-3 (a .pre) (now (a .args .cells)) _ _ (c .before .before .before .order .ensures) (c .before .is-sound .ensures) (c .if1 .taken))
+    -- look-at-requires
+    (λ c κs. let e = c .before .before in ((e .before .before .before .before .before .pre, right e), (refl, refl)))
+    (λ c κs. search needs)
     -- returns-2
     (λ c.
-    let s = c .before .before .before .before .before .before .before .before .before .before .before in
-    let right = sym (c .before .before .before .before .before .before .before .before .is-sound .ensures) ∙ not-false _ (c .before .before .before .before .before .before .before .if1 .left) in
-    reads-4 (s .pre) (s .args .cells .now) right (c .before .before .before .before .before .spread .ensures) _ (c .before .judge .ensures) (c .if2 .taken))
-    (λ c κs. search needs)
-    -- returns-3
-    (λ c.
-    let s = c .before .before .before .before .before .before .before .before .before .before .before .before in
-    let right = sym (c .before .before .before .before .before .before .before .before .before .is-sound .ensures) ∙ not-false _ (c .before .before .before .before .before .before .before .before .if1 .left) in
-    reads-as (s .pre) (s .args .cells .now) right (c .before .before .before .before .before .before .spread .ensures) _ (c .before .before .judge .ensures) _ (c .before .if2 .left) (c .writes-left .ensures)))
+    let l = c .before in
+    let e = l .before .before .before in
+    let a = e .before .before .before .before .before in
+    c .answer .ensures ∙ reads-as (a .pre) (now (a .args .cells)) (right e) _ (l .look-at .ensures .0)))

@@ -1,9 +1,8 @@
--- `field::write_sound` meets its contract: refused where the cells have no reading or are spent, and else the write of the rules.
--- Assumes nothing.
+-- `field::write_sound` meets its contract. Assumes nothing.
 use native.Mathlib.Omega.{arith}
 use borrow.Author.Needs.{needs}
-use Rattle.field.proofs.Replying.{past-asks, holds, judge-asks}
-use Rattle.field.proofs.Rewriting.{writes-4, writes-5, place, writes-as}
+use mathlib.Core.Path.{refl, sym, _∙_}
+use Rattle.field.proofs.Rewriting.{placed, writes-as, writes-not}
 use Rattle.field.proofs.write_sound.Statement.{statement}
 use Rattle.field.proofs.write_sound.Tie as tie
 
@@ -11,42 +10,40 @@ pub write-sound-spec : {M : Type 1} → statement M
 write-sound-spec =
     tie.close
     (tie.spec
+    -- look-at-requires
+    (λ c κs. let a = c .before .before .before .before in ((a .pre .0, a .pre .2), (refl, refl)))
+    (λ c κs. search needs)
     (λ c. search needs)
-    (λ c. search needs)
-    -- spread-requires
-    (λ c κs. let s = c .before .before .before .before in (holds (s .pre .0) (s .args .cells .now) (s .pre .2), s .pre .0 .small 0))
-    -- past-requires
-    (λ c κs. past-asks (c .before .before .before .before .before .before .pre .0))
-    (λ c. search needs)
-    -- judge-requires
+    -- write-at-requires
     (λ c κs.
-    let s = c .before .before .before .before .before .before .before .before in
-    let G = s .pre .0 in
-    (G, (G .each 0, omega (arith, G .small 0), judge-asks G (s .args .cells .now) (s .pre .2) (c .before .before .before .spread .ensures) _ (c .before .past .ensures .0), c .before .past .ensures .1)))
+    let aim = c .before .before .before .before in
+    let l = aim .before .before .before in
+    let a = l .before .before .before .before .before in
+    let K = l .look-at .ensures in
+    let P = placed (a .pre .0) (a .args .x) _ (a .pre .2) (a .pre .1) (K .0) _ (sym (aim .aim .given .1) ∙ aim .before .before .take-aim .ensures) in
+    ((a .pre .0, P .low, a .pre .1, K .1), (K .0 .holds, P .ready, a .pre .2)))
+    -- add-t23
+    (λ c.
+    let aim = c .before .before .before .before .before .before .before in
+    let l = aim .before .before .before in
+    let a = l .before .before .before .before .before in
+    let K = l .look-at .ensures .0 in
+    let P = placed (a .pre .0) (a .args .x) _ (a .pre .2) (a .pre .1) K _ (sym (aim .aim .given .1) ∙ aim .before .before .take-aim .ensures) in
+    omega (arith, P .low, a .pre .0 .t-high))
+    (λ c. search needs)
     (λ c. search needs)
     -- returns
     (λ c.
-    let s = c .before .before .before .before .before .before .before .before .before .before in
-    writes-4 (s .pre .0) (s .args .number) (s .args .cells .now) (s .pre .2) (s .pre .1) (c .before .before .before .before .before .spread .ensures) _ (c .before .judge .ensures) (c .if1 .taken))
+    let aim = c .before .before .before .before .before .before .before in
+    let l = aim .before .before .before in
+    let a = l .before .before .before .before .before in
+    let K = l .look-at .ensures .0 in
+    let P = placed (a .pre .0) (a .args .x) _ (a .pre .2) (a .pre .1) K _ (sym (aim .aim .given .1) ∙ aim .before .before .take-aim .ensures) in
+    writes-as (a .pre .0) (a .args .x) _ (a .pre .2) (a .pre .1) K _ _ _ P (c .before .before .write-at .ensures))
     (λ c. search needs)
     -- returns-2
     (λ c.
-    let s = c .before .before .before .before .before .before .before .before .before .before .before in
-    writes-5 (s .pre .0) (s .args .number) (s .args .cells .now) (s .pre .2) (s .pre .1) (c .before .before .before .before .before .before .spread .ensures) _ (c .before .before .judge .ensures) (c .before .if1 .left) (c .if2 .taken))
-    (λ c κs. search needs)
-    (λ c. search needs)
-    -- put-requires
-    (λ c κs.
-    let s = c .before .before .before .before .before .before .before .before .before .before .before .before .before .before in
-    let P = place (s .pre .0) (s .args .number) (s .args .cells .now) (s .pre .2) (s .pre .1) (c .before .before .before .before .before .before .before .before .before .spread .ensures) _ (c .before .before .before .before .before .judge .ensures) (c .before .before .before .before .if1 .left) (c .before .before .before .if2 .left) _ (c .before .before .place-after .ensures) (omega arith) in
-    ((s .pre .0, P .low, s .pre .1), P .ready))
-    -- add-t30
-    (λ c.
-    let s = c .before .before .before .before .before .before .before .before .before .before .before .before .before .before .before .before .before in
-    let P = place (s .pre .0) (s .args .number) (s .args .cells .now) (s .pre .2) (s .pre .1) (c .before .before .before .before .before .before .before .before .before .before .before .before .spread .ensures) _ (c .before .before .before .before .before .before .before .before .judge .ensures) (c .before .before .before .before .before .before .before .if1 .left) (c .before .before .before .before .before .before .if2 .left) _ (c .before .before .before .before .before .place-after .ensures) (omega arith) in
-    omega (arith, P .low, s .pre .0 .t-high))
-    (λ c. search needs)
-    -- returns-3
-    (λ c.
-    let s = c .before .before .before .before .before .before .before .before .before .before .before .before .before .before .before .before .before in
-    writes-as (s .pre .0) (s .args .number) (s .args .cells .now) (s .pre .2) (s .pre .1) (c .before .before .before .before .before .before .before .before .before .before .before .before .spread .ensures) _ (c .before .before .before .before .before .before .before .before .judge .ensures) (c .before .before .before .before .before .before .before .if1 .left) (c .before .before .before .before .before .before .if2 .left) _ (c .before .before .before .before .before .place-after .ensures) _ _ (omega arith) (c .before .before .put .ensures)))
+    let l = c .before .before .before .before in
+    let a = l .before .before .before .before .before in
+    writes-not (a .pre .0) (a .args .x) _ (a .pre .2) (a .pre .1) (l .look-at .ensures .0) _
+    (sym (c .before .aim2 .given .1) ∙ c .before .before .before .take-aim .ensures)))

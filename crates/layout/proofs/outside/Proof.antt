@@ -1,12 +1,12 @@
 -- `layout::outside` meets its contract. Assumes nothing.
 use borrow.Author.Needs.{needs}
-use Rattle.code.specs.Calls.{outside}
+use Rattle.code.specs.Shape.{outside}
 use Rattle.layout.proofs.outside.Statement.{statement}
 use Rattle.layout.proofs.outside.Tie as tie
 
-returns : tie.Need-returns
-unfolding outside
-returns c = search needs
-
 pub outside-spec : {M : Type 1} → statement M
-outside-spec = tie.close (tie.spec returns)
+unfolding outside
+outside-spec =
+    tie.close
+    (tie.spec
+    (λ c. search needs))

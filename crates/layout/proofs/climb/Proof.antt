@@ -1,0 +1,45 @@
+-- `layout::climb` meets its contract. Assumes nothing.
+use Prim.Native.Nat.{_-_}
+use native.Mathlib.Omega.{arith}
+use borrow.Author.Needs.{needs}
+use Rattle.layout.specs.Climb.{Climbed, Short}
+use Rattle.layout.proofs.Pascal.{climb-begin, short-begin, may-grow, short-turn, climb-end}
+use Rattle.layout.proofs.climb.Statement.{statement}
+use Rattle.layout.proofs.climb.Tie as tie
+
+abbrev Inv-loop : tie.InvT-loop
+Inv-loop b low need cut s₀ d₀ s d = Climbed b low d (s .all) (s .term) (s .more) × Short b low need d
+
+abbrev μ-loop : tie.MeasureT-loop
+μ-loop b low need cut s₀ d₀ s d = 16 - d
+
+pub climb-spec : {M : Type 1} → statement M
+climb-spec =
+    tie.close
+    (tie.spec
+    Inv-loop
+    μ-loop
+    -- loop-holds
+    (λ c. let a = c .args in (climb-begin (a .b) (a .low) (c .pre .within), short-begin (a .b) (a .low) (a .need) (omega (arith, c .pre .some))))
+    -- add-if1
+    (λ c. search needs)
+    -- reached-requires
+    (λ c κs. search needs)
+    -- returns
+    (λ c.
+    let s = c .before .before .before .before .loop in
+    climb-end (s .inv .0) (c .before .before .before .before .before .pre) (s .inv .1) (c .before .if1 .taken) (c .reached .ensures))
+    -- grow-requires
+    (λ c κs. let C = c .before .before .before .loop .inv .0 in (may-grow C (c .before .before .before .before .pre) (c .if1 .left), C))
+    -- add-d
+    (λ c. search needs)
+    -- loop-less
+    (λ c. search needs)
+    -- loop-again
+    (λ c.
+    let s = c .before .before .before .before .loop in
+    (c .grow .ensures, short-turn (s .inv .0) (c .before .before .before .before .before .pre) (c .before .if1 .left)))
+    -- climb-on-requires
+    (λ c κs. search needs)
+    -- returns-2
+    (λ c. search needs))

@@ -1,0 +1,37 @@
+-- What a climb to a count finds, and what it knows on its way.
+use Prim.Native.Nat.{ℕ, suc, _+_, _-_, _*_, _^_, _<_, _≤_}
+use mathlib.Core.Path.{_≡_}
+use Rattle.code.specs.Count.{choose, fewer}
+use Rattle.counting.specs.Cap.{cap}
+
+-- the patterns of x groups that leave low of them zero, from `first` written places on: the sums of b and c
+abbrev pub held : ℕ → ℕ → ℕ → ℕ → ℕ
+held b first low x = fewer b x first (suc (x - low))
+
+-- r is the first number above low at which f, which grows, is at least v
+pub record Least (f : ℕ → ℕ) (v low r : ℕ) : Type 0 where
+  pub above : low < r
+  pub short : f (r - 1) < v
+  pub enough : v ≤ f r
+
+-- d places above low: the patterns of at most d written places, those of d, and those of d + 1 before the value of the last is chosen
+pub record Climbed (b low d all term more : ℕ) : Type 0 where
+  pub is-all : all ≡ fewer b (low + d) 0 (suc d)
+  pub is-term : term ≡ choose (low + d) d * b ^ d
+  pub is-more : more ≡ choose (low + d) (suc d) * b ^ d
+  pub near : d ≤ cap
+  pub far : d < all
+  pub fits : all + more < 2 ^ 64
+
+-- what a climb is asked for: need patterns above low, of b values for a written place; cut is the least number whose product with b is at least need
+pub record Asked (b low need cut : ℕ) : Type 0 where
+  pub values : 0 < b
+  pub within : low ≤ 255
+  pub some : 2 ≤ need
+  pub most : need ≤ cap
+  pub cut-enough : need ≤ cut * b
+  pub cut-least : cut * b < need + b
+
+-- one place fewer than d is not enough
+abbrev pub Short : ℕ → ℕ → ℕ → ℕ → Type 0
+Short b low need d = fewer b (low + (d - 1)) 0 d < need

@@ -1,0 +1,28 @@
+-- A layout worked out, and what is known where it is granted.
+use Prim.Native.Nat.{ℕ, _^_, _<_, _≤_}
+use mathlib.Core.Path.{_≡_}
+use mathlib.Core.List.{List, [], _∷_}
+use lib.ListN.{length, getD, take}
+use Rattle.code.specs.declared.Shape.{Shape}
+use Rattle.code.specs.Shape.{countsOf}
+use Rattle.code.specs.Calls.{filled, layoutFields, layoutRefusal, layoutReply}
+use Rattle.layout.specs.declared.Plan.{Plan}
+
+-- it is that of its shape, with g = 256, and h holds its counts
+pub record Planned (p : Plan) (h : List ℕ) : Type 0 where
+  pub right : p .refusal ∷ h ≡ filled layoutFields (layoutReply (p .shape) 256)
+
+-- a shape is within its bounds, and h holds its granted counts and 0 behind them
+pub record Granted (s : Shape) (h : List ℕ) : Type 0 where
+  pub ok : layoutRefusal s 256 ≡ []
+  pub m-low : 2 ≤ s .m
+  pub m-high : s .m ≤ 4
+  pub t-low : 2 ≤ s .t
+  pub t-high : s .t ≤ 16
+  pub v-low : 2 ≤ s .v
+  pub v-high : s .v ≤ 2 ^ 56
+  pub list : take (s .t) h ≡ countsOf s
+  pub many : length (countsOf s) ≡ s .t
+  pub each : (n : ℕ) → getD h n 0 ≡ getD (countsOf s) n 0
+  pub small : (n : ℕ) → getD h n 0 ≤ 256
+  pub some : 0 < getD h 0 0
