@@ -1,11 +1,13 @@
--- The promises of `step_at`, `step_kept`, `export` and `walk` leave no choice: two answers that one of them allows are equal, and so is what they leave in the output.
+-- The promises of `step_at`, `step_kept`, `export` and `walk` leave no choice: two answers that one of them allows are equal, and so is the output afterwards.
 use Prim.Native.Nat.{ℕ}
 use mathlib.Core.Path.{_≡_, refl, sym, ap, _∙_}
 use mathlib.Core.List.{List}
 use native.Mathlib.Omega.{arith}
 use lib.ListN.{length}
-use Rattle.code.specs.Dump.{stepReply, exportReply, exportLeaves, walkReply, walkLeaves}
+use Rattle.code.specs.Dump.{recordNumbers, stepReply, exportReply, exportLeaves, walkReply, walkLeaves}
 use Rattle.code.proofs.Tests.{clash}
+use Rattle.code.proofs.Steps.{numbers-same}
+use Rattle.field.specs.Answers.{readingOf}
 use Rattle.field.proofs.Unique.{same-reading}
 use Rattle.dump.specs.Answers.{exportedOf, haltOf, stepOf, walkedOf}
 use Rattle.dump.specs.declared.Exported.{Exported}
@@ -25,24 +27,19 @@ same-halt Oversize (Malformed offset) q = absurd (omega (arith, ap length q))
 same-halt Oversize Oversize q = refl
 
 pub same-step : (r r′ : Step) → stepOf r ≡ stepOf r′ → r ≡ r′
-same-step (Record serial m t v start count outcome) (Record serial′ m′ t′ v′ start′ count′ outcome′) q =
-    let a : serial ≡ serial′ = cc in
-    let b : m ≡ m′ = cc in
-    let c : t ≡ t′ = cc in
-    let d : v ≡ v′ = cc in
-    let e : start ≡ start′ = cc in
-    let f : count ≡ count′ = cc in
-    let g : outcome ≡ outcome′ = same-reading outcome outcome′ (cc) in
-    rw (a, b, c, d, e, f, g)
-same-step (Record serial m t v start count outcome) End q = clash (cc)
-same-step (Record serial m t v start count outcome) (Stop (Malformed offset)) q = clash (cc)
-same-step (Record serial m t v start count outcome) (Stop Oversize) q = clash (cc)
-same-step End (Record serial m t v start count outcome) q = clash (cc)
+unfolding recordNumbers
+same-step (Record r reading) (Record r′ reading′) q =
+    let both = numbers-same r r′ (readingOf reading) (readingOf reading′) (cc) in
+    rw (both .0, same-reading reading reading′ (both .1))
+same-step (Record r reading) End q = clash (cc)
+same-step (Record r reading) (Stop (Malformed offset)) q = clash (cc)
+same-step (Record r reading) (Stop Oversize) q = clash (cc)
+same-step End (Record r reading) q = clash (cc)
 same-step End End q = refl
 same-step End (Stop (Malformed offset)) q = clash (cc)
 same-step End (Stop Oversize) q = clash (cc)
-same-step (Stop (Malformed offset)) (Record serial m t v start count outcome) q = clash (cc)
-same-step (Stop Oversize) (Record serial m t v start count outcome) q = clash (cc)
+same-step (Stop (Malformed offset)) (Record r reading) q = clash (cc)
+same-step (Stop Oversize) (Record r reading) q = clash (cc)
 same-step (Stop (Malformed offset)) End q = clash (cc)
 same-step (Stop Oversize) End q = clash (cc)
 same-step (Stop h) (Stop h′) q =

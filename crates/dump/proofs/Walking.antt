@@ -8,42 +8,43 @@ use native.Mathlib.Numerals.{add-one}
 use lib.ListN.{length}
 use borrow.Author.Tests.{lt-ltb, le-ltb}
 use Rattle.code.specs.Calls.{filled}
-use Rattle.code.specs.Dump.{stepReply, walkFrom, rowsOf, closing, walkReply, walkLeaves}
-use Rattle.code.proofs.LayoutReply.{filled-length}
-use Rattle.code.proofs.Steps.{step-oversize}
+use Rattle.code.specs.declared.Record as Declared
+use Rattle.code.specs.Dump.{stepReply, recordNumbers, walkFrom, rowsOf, closing, walkReply, walkLeaves}
+use Rattle.code.proofs.LayoutCall.{filled-length}
+use Rattle.code.proofs.Records.{step-oversize}
 use Rattle.code.proofs.Walk.{walk-taken, walk-ended, walk-stopped}
 use Rattle.storing.specs.Put.{Put}
 use Rattle.storing.proofs.Put.{put-none, put-then, put-length, put-pastes}
 use Rattle.field.specs.Answers.{readingOf}
 use Rattle.field.specs.declared.Reading.{Reading}
-use Rattle.dump.specs.Answers.{haltNumber, haltCarries, stepOf, haltedBy}
+use Rattle.dump.specs.Answers.{dumpMost, rowLength, haltNumber, haltCarries, stepOf, haltedBy}
 use Rattle.dump.specs.declared.Halt.{Halt}
 use Rattle.dump.specs.declared.Step.{Step}
 use Rattle.dump.specs.declared.Step.the-variants.{Record, End, Stop}
 use Rattle.dump.proofs.Steps.{gives-record, gives-end, gives-stop}
 
 -- no row is made of a dump that is too long
-no-rows : (bytes : List ℕ) (at : ℕ) → 65536 < length bytes → (fuel : ℕ) → rowsOf bytes (walkFrom fuel bytes at) ≡ []
+no-rows : (bytes : List ℕ) (at : ℕ) → dumpMost < length bytes → (fuel : ℕ) → rowsOf bytes (walkFrom fuel bytes at) ≡ []
 unfolding rowsOf walkFrom
 no-rows bytes at h zero = refl
 no-rows bytes at h (suc fuel) = rw (walk-stopped fuel bytes at 8 [] (step-oversize bytes at h))
 
 -- the rows before are walked into from place `at` on: `done` rows are filled, up to `place`, and the next step is due at `next`
 pub record Walking (bytes : List ℕ) (at : ℕ) (before rows : List ℕ) (next done place : ℕ) : Type 0 where
-  pub short : length bytes ≤ 65536
-  pub placed : place ≡ 10 * done
+  pub short : length bytes ≤ dumpMost
+  pub placed : place ≡ rowLength * done
   pub room : place ≤ length before
   pub same : length rows ≡ length before
   pub filling : List ℕ
   pub stored : Put before rows 0 filling place
-  pub made : rowsOf bytes (walkFrom (length before / 10) bytes at) ≡ filling ++ rowsOf bytes (walkFrom (length before / 10 - done) bytes next)
-  pub closes : closing at 0 (walkFrom (length before / 10) bytes at) ≡ closing next done (walkFrom (length before / 10 - done) bytes next)
+  pub made : rowsOf bytes (walkFrom (length before / rowLength) bytes at) ≡ filling ++ rowsOf bytes (walkFrom (length before / rowLength - done) bytes next)
+  pub closes : closing at 0 (walkFrom (length before / rowLength) bytes at) ≡ closing next done (walkFrom (length before / rowLength - done) bytes next)
 
 -- what a walk answers, and what it leaves in the rows
 abbrev pub Walks : List ℕ → ℕ → List ℕ → List ℕ → List ℕ → Type 0
 Walks bytes at before reply rows = (reply ≡ walkReply bytes at before) × (rows ≡ walkLeaves bytes at before)
 
-pub walking-begin : (bytes : List ℕ) (at : ℕ) (rows : List ℕ) → length bytes ≤ 65536 → Walking bytes at rows rows at 0 0
+pub walking-begin : (bytes : List ℕ) (at : ℕ) (rows : List ℕ) → length bytes ≤ dumpMost → Walking bytes at rows rows at 0 0
 walking-begin bytes at rows short = record {
   short = short;
   placed = refl;
@@ -56,39 +57,39 @@ walking-begin bytes at rows short = record {
 }
 
 module _ {bytes : List ℕ} {at : ℕ} {before rows : List ℕ} {next done place : ℕ} (w : Walking bytes at before rows next done place) where
-  walking-ends : {reply : List ℕ} → rowsOf bytes (walkFrom (length before / 10 - done) bytes next) ≡ [] →
-      reply ≡ closing next done (walkFrom (length before / 10 - done) bytes next) → Walks bytes at before reply rows
+  walking-ends : {reply : List ℕ} → rowsOf bytes (walkFrom (length before / rowLength - done) bytes next) ≡ [] →
+      reply ≡ closing next done (walkFrom (length before / rowLength - done) bytes next) → Walks bytes at before reply rows
   unfolding walkReply walkLeaves
   walking-ends none e =
-      let all : rowsOf bytes (walkFrom (length before / 10) bytes at) ≡ w .filling = rw (none, append-nil) at (w .made) in
+      let all : rowsOf bytes (walkFrom (length before / rowLength) bytes at) ≡ w .filling = rw (none, append-nil) at (w .made) in
       let long : place ≡ length (w .filling) = omega (arith, w .stored .ends) in
-      (rw (le-ltb 65536 (length bytes) (w .short)) (e ∙ sym (w .closes)), rw (all, ← long) (put-pastes (w .stored) (w .room)))
+      (rw (le-ltb dumpMost (length bytes) (w .short)) (e ∙ sym (w .closes)), rw (all, ← long) (put-pastes (w .stored) (w .room)))
 
   -- no room for another row
-  pub walking-full : {reply : List ℕ} → length before - place < 10 → reply ≡ 0 ∷ 0 ∷ done ∷ next ∷ 0 ∷ [] → Walks bytes at before reply rows
+  pub walking-full : {reply : List ℕ} → length before - place < rowLength → reply ≡ 0 ∷ 0 ∷ done ∷ next ∷ 0 ∷ [] → Walks bytes at before reply rows
   unfolding walkFrom rowsOf closing
   walking-full h e =
-      let none : length before / 10 - done ≡ 0 = omega (arith, w .placed) in
+      let none : length before / rowLength - done ≡ 0 = omega (arith, w .placed) in
       walking-ends (rw none) (rw none e)
 
-  module _ (free : 10 ≤ length before - place) where
-    more : length before / 10 - done ≡ suc (length before / 10 - suc done)
+  module _ (free : rowLength ≤ length before - place) where
+    more : length before / rowLength - done ≡ suc (length before / rowLength - suc done)
     more = omega (arith, w .placed)
 
     module _ {s : Step} (gives : stepOf s ≡ stepReply bytes next) where
-      pub walking-next : {serial m t v start count : ℕ} {outcome : Reading} {rows′ : List ℕ} {place′ : ℕ} → s ≡ Record serial m t v start count outcome →
-          Put rows rows′ place (serial ∷ m ∷ t ∷ v ∷ start ∷ count ∷ filled 4 (readingOf outcome)) place′ → Walking bytes at before rows′ (start + count) (done + 1) place′
-      unfolding rowsOf closing
-      walking-next {serial} {m} {t} {v} {start} {count} {outcome} e p =
+      pub walking-next : {r : Declared.Record} {reading : Reading} {rows′ : List ℕ} {place′ : ℕ} → s ≡ Record r reading →
+          Put rows rows′ place (recordNumbers r ++ filled 4 (readingOf reading)) place′ → Walking bytes at before rows′ (r .start + r .count) (done + 1) place′
+      unfolding rowsOf closing recordNumbers
+      walking-next {r} {reading} e p =
           let told = gives-record bytes next gives e in
-          let turn = walk-taken (length before / 10 - suc done) bytes next serial m t v start count (told .0) in
-          let four = filled-length 4 (readingOf outcome) in
+          let turn = walk-taken (length before / rowLength - suc done) bytes next r (told .0) in
+          let four = filled-length 4 (readingOf reading) in
           record {
             short = w .short;
             placed = omega (arith, w .placed, p .ends);
             room = omega (arith, p .ends);
             same = put-length p ∙ w .same;
-            filling = w .filling ++ (serial ∷ m ∷ t ∷ v ∷ start ∷ count ∷ filled 4 (readingOf outcome));
+            filling = w .filling ++ (recordNumbers r ++ filled 4 (readingOf reading));
             stored = put-then (w .stored) p;
             made = rw (add-one done, append-assoc) (rw (more, turn, told .1) at (w .made));
             closes = rw (add-one done) (rw (more, turn) at (w .closes));
@@ -97,16 +98,17 @@ module _ {bytes : List ℕ} {at : ℕ} {before rows : List ℕ} {next done place
       pub walking-end : {reply : List ℕ} → s ≡ End → reply ≡ 0 ∷ 0 ∷ done ∷ next ∷ 1 ∷ [] → Walks bytes at before reply rows
       unfolding rowsOf closing
       walking-end e r =
-          let turn = walk-ended (length before / 10 - suc done) bytes next (gives-end bytes next gives e) in
+          let turn = walk-ended (length before / rowLength - suc done) bytes next (gives-end bytes next gives e) in
           walking-ends (rw (more, turn)) (rw (more, turn) r)
 
       pub walking-stop : {reply : List ℕ} {halt : Halt} → s ≡ Stop halt → reply ≡ haltedBy next done halt → Walks bytes at before reply rows
       unfolding rowsOf closing
       walking-stop {halt = halt} e r =
-          let turn = walk-stopped (length before / 10 - suc done) bytes next (haltNumber halt) (haltCarries halt) (gives-stop bytes next gives e) in
+          let turn = walk-stopped (length before / rowLength - suc done) bytes next (haltNumber halt) (haltCarries halt) (gives-stop bytes next gives e) in
           walking-ends (rw (more, turn)) (rw (more, turn) r)
 
 -- a dump that is too long
-pub walk-refused : (bytes : List ℕ) (at : ℕ) (rows : List ℕ) {reply : List ℕ} → 65536 < length bytes → reply ≡ 8 ∷ 0 ∷ 0 ∷ 0 ∷ 0 ∷ [] → Walks bytes at rows reply rows
+pub walk-refused : (bytes : List ℕ) (at : ℕ) (rows : List ℕ) {reply : List ℕ} → dumpMost < length bytes → reply ≡ 8 ∷ 0 ∷ 0 ∷ 0 ∷ 0 ∷ [] →
+    Walks bytes at rows reply rows
 unfolding walkReply walkLeaves
-walk-refused bytes at rows h r = (rw (lt-ltb 65536 (length bytes) h) r, rw (no-rows bytes at h (length rows / 10)))
+walk-refused bytes at rows h r = (rw (lt-ltb dumpMost (length bytes) h) r, rw (no-rows bytes at h (length rows / rowLength)))

@@ -1,18 +1,22 @@
 // Document 01, "Dumps": export, one step of the walk, and the walk.
+use code::Record;
+use code::Shape;
 use field::Reading;
+use layout::Plan;
 use records::Head;
 ghost use mathlib.Core.Path.{_≡_};
-ghost use mathlib.Core.List.{[], _∷_};
+ghost use mathlib.Core.List.{[], _∷_, _++_};
 ghost use Prim.Native.Nat.{_+_, _≤_};
-ghost use lib.ListN.{length};
+ghost use lib.ListN.{length, replicate};
 ghost use Rattle.code.specs.Calls.{filled};
-ghost use Rattle.code.specs.Dump.{exportReply, exportLeaves, stepReply, taken, outcome, walkReply, walkLeaves};
+ghost use Rattle.code.specs.Dump.{exportReply, exportLeaves, step, taken, stepValues, stepReply, recordNumbers, walkReply, walkLeaves};
 ghost use Rattle.storing.specs.Put.{Put};
+ghost use Rattle.layout.specs.Plan.{Planned};
 ghost use Rattle.field.specs.Answers.{readingOf};
-ghost use Rattle.dump.specs.Answers.{exportedOf, stepOf, Right, RightFor, walkedOf, haltedBy};
+ghost use Rattle.dump.specs.Answers.{rowLength, exportedOf, placeOf, stepOf, walkedOf, haltedBy};
 
 // The most bytes of a dump.
-const DUMP_MOST: usize = 65536;
+pub const DUMP_MOST: usize = 65536;
 
 // The least serial that is refused.
 const SERIAL_END: u64 = 0x8000_0000_0000_0000;
@@ -31,11 +35,13 @@ pub fn export(serial: u64, m: u64, t: u64, v: u64, cells: &[u8], out: &mut [u8])
     if SERIAL_END <= serial {
         return Exported::Refused(10);
     }
-    let l = layout::lay_out(m, t, v, 256);
-    if l.refusal != 0 {
-        return Exported::Refused(l.refusal);
+    let s = Shape { m, t, v };
+    let mut h = [0u64; 16];
+    let refusal = layout::lay_into(&mut h, s, 256);
+    if refusal != 0 {
+        return Exported::Refused(refusal);
     }
-    if !cells::is_sound(cells, 0, m as usize, l.h[0] as usize) {
+    if !cells::is_sound(cells, layout::order(s), m as usize, h[0] as usize) {
         return Exported::Refused(3);
     }
     if out.len() < records::record_length(serial, m, t, v, cells.len()) {
@@ -51,124 +57,31 @@ pub enum Halt {
 }
 
 pub enum Step {
-    // The cells are the `count` bytes from `start` on: `records::part` gives them.
-    Record {
-        serial: u64,
-        m: u64,
-        t: u64,
-        v: u64,
-        start: usize,
-        count: usize,
-        outcome: Reading,
-    },
+    // The record's cells are a part of the dump: `records::part` gives them.
+    Record { record: Record, outcome: Reading },
     End,
     Stop(Halt),
 }
 
-// The layout of the last record's m, t and v, for records that repeat them.
-pub struct Kept {
-    pub m: u64,
-    pub t: u64,
-    pub v: u64,
-    pub refusal: u64,
-    pub h: [u64; 16],
+// What stands at a place: a record that is not read yet, the end, or why the walk stops.
+enum Place {
+    Record(Record),
+    End,
+    Stop(Halt),
 }
 
-// What is kept before the first record: the refusal of 0, 0, 0.
-pub fn keep_none() -> Kept
-    ensures { λ r. ⌜ Right r ⌝ }
-{
-    let h = [0u64; 16];
-    Kept {
-        m: 0,
-        t: 0,
-        v: 0,
-        refusal: 1,
-        h,
-    }
-}
-
-fn renew(k: Kept, m: u64, t: u64, v: u64) -> Kept
-    requires { ⌜ Right k ⌝ }
-    ensures { λ r. ⌜ RightFor m t v r ⌝ }
-{
-    if k.v == v {
-        if k.t == t {
-            if k.m == m {
-                return k;
-            }
-        }
-    }
-    let l = layout::lay_out(m, t, v, 256);
-    let h = l.h;
-    Kept {
-        m,
-        t,
-        v,
-        refusal: l.refusal,
-        h,
-    }
-}
-
-pub struct Stepped {
-    pub step: Step,
-    pub kept: Kept,
-}
-
-// The step that gives a record.
-fn step_record(
-    dump: &[u8],
-    kept: Kept,
-    serial: u64,
-    m: u64,
-    t: u64,
-    v: u64,
-    start: usize,
-    count: usize,
-) -> Stepped
-    requires { ⌜ Right kept ⌝ }
-    ensures { λ r. ⌜ (stepOf (r .step) ≡ outcome (now (dump .entry)) (taken serial m t v start count)) × Right (r .kept) ⌝ }
-{
-    let k = renew(kept, m, t, v);
-    let outcome = field::read_by(k.refusal, &k.h, m, t, v, records::part(dump, start, count));
-    let step = Step::Record {
-        serial,
-        m,
-        t,
-        v,
-        start,
-        count,
-        outcome,
-    };
-    Stepped { step, kept: k }
-}
-
-// The step at a place, with what is kept of the steps before.
-pub fn step_kept(dump: &[u8], at: usize, kept: Kept) -> Stepped
-    requires { ⌜ Right kept ⌝ }
-    ensures { λ r. ⌜ (stepOf (r .step) ≡ stepReply (now (dump .entry)) at) × Right (r .kept) ⌝ }
+fn locate(dump: &[u8], at: usize) -> Place
+    ensures { λ r. ⌜ placeOf r ≡ step (now (dump .entry)) at ⌝ }
 {
     if DUMP_MOST < dump.len() {
-        let step = Step::Stop(Halt::Oversize);
-        return Stepped { step, kept };
+        return Place::Stop(Halt::Oversize);
     }
     if dump.len() <= at {
-        let step = Step::End;
-        return Stepped { step, kept };
+        return Place::End;
     }
     match records::read_head(dump, at) {
-        Head::Whole {
-            serial,
-            m,
-            t,
-            v,
-            start,
-            count,
-        } => step_record(dump, kept, serial, m, t, v, start, count),
-        Head::Malformed { offset } => {
-            let step = Step::Stop(Halt::Malformed { offset });
-            Stepped { step, kept }
-        }
+        Head::Whole(record) => Place::Record(record),
+        Head::Malformed { offset } => Place::Stop(Halt::Malformed { offset }),
     }
 }
 
@@ -176,9 +89,75 @@ pub fn step_kept(dump: &[u8], at: usize, kept: Kept) -> Stepped
 pub fn step_at(dump: &[u8], at: usize) -> Step
     ensures { λ r. ⌜ stepOf r ≡ stepReply (now (dump .entry)) at ⌝ }
 {
-    let kept = keep_none();
-    let s = step_kept(dump, at, kept);
-    s.step
+    match locate(dump, at) {
+        Place::Record(record) => {
+            let cells = records::part(dump, record.start, record.count);
+            let outcome = field::read(record.shape, cells);
+            Step::Record { record, outcome }
+        }
+        Place::End => Step::End,
+        Place::Stop(halt) => Step::Stop(halt),
+    }
+}
+
+// What is kept before the first record, with no counts: the refusal of the shape 0, 0, 0.
+pub fn keep_none() -> Plan
+    ensures { λ r. ⌜ Planned r (replicate 16 0) ⌝ }
+{
+    let shape = Shape { m: 0, t: 0, v: 0 };
+    Plan { shape, refusal: 1 }
+}
+
+// The plan of a shape, which is the one kept where a record repeats the shape of the record before.
+fn renew(h: &mut [u64; 16], kept: Plan, shape: Shape) -> Plan
+    requires { ⌜ Planned kept (now h) ⌝ }
+    ensures { λ r. ⌜ (r .shape ≡ shape) × Planned r (now (h .exit)) ⌝ }
+{
+    let s = kept.shape;
+    if s.v == shape.v {
+        if s.t == shape.t {
+            if s.m == shape.m {
+                return kept;
+            }
+        }
+    }
+    *h = [0u64; 16];
+    let refusal = layout::lay_into(h, shape, 256);
+    Plan { shape, refusal }
+}
+
+pub struct Stepped {
+    pub step: Step,
+    pub kept: Plan,
+}
+
+// The step that gives a record.
+fn step_record(dump: &[u8], h: &mut [u64; 16], kept: Plan, record: Record) -> Stepped
+    requires { ⌜ Planned kept (now h) ⌝ }
+    ensures { λ r. ⌜ (stepOf (r .step) ≡ stepValues (now (dump .entry)) (taken «record»)) × Planned (r .kept) (now (h .exit)) ⌝ }
+{
+    let plan = renew(h, kept, record.shape);
+    let outcome = field::read_by(plan, h, records::part(dump, record.start, record.count));
+    let step = Step::Record { record, outcome };
+    Stepped { step, kept: plan }
+}
+
+// The step at a place, with what is kept of the steps before; its counts stand in h.
+pub fn step_kept(dump: &[u8], at: usize, h: &mut [u64; 16], kept: Plan) -> Stepped
+    requires { ⌜ Planned kept (now h) ⌝ }
+    ensures { λ r. ⌜ (stepOf (r .step) ≡ stepReply (now (dump .entry)) at) × Planned (r .kept) (now (h .exit)) ⌝ }
+{
+    match locate(dump, at) {
+        Place::Record(record) => step_record(dump, h, kept, record),
+        Place::End => {
+            let step = Step::End;
+            Stepped { step, kept }
+        }
+        Place::Stop(halt) => {
+            let step = Step::Stop(halt);
+            Stepped { step, kept }
+        }
+    }
 }
 
 // Where a walk into rows stopped: the refusal and its offset, the rows filled, where the next step would start, and 1 where the end was reached.
@@ -227,44 +206,49 @@ fn pause_walk(next: u64, rows: u64, ended: u64) -> Walked
 }
 
 // The numbers of a row.
-const ROW: usize = 10;
+pub const ROW: usize = 10;
 
 // A record in the rows of a walk.
 struct Row {
-    numbers: [u64; 10],
+    numbers: [u64; ROW],
 }
 
-fn make_row(
-    serial: u64,
-    m: u64,
-    t: u64,
-    v: u64,
-    start: usize,
-    count: usize,
-    outcome: Reading,
-) -> Row
-    ensures { λ r. ⌜ r .numbers ≡ serial ∷ m ∷ t ∷ v ∷ start ∷ count ∷ filled 4 (readingOf outcome) ⌝ }
+fn make_row(record: Record, outcome: Reading) -> Row
+    ensures { λ r. ⌜ r .numbers ≡ recordNumbers «record» ++ filled 4 (readingOf outcome) ⌝ }
 {
-    let first = start as u64;
-    let bytes = count as u64;
+    let serial = record.serial;
+    let s = record.shape;
+    let start = record.start as u64;
+    let count = record.count as u64;
     match outcome {
         Reading::Read {
             generation,
             number,
             left,
         } => {
-            let numbers = [serial, m, t, v, first, bytes, 0, generation, number, left];
+            let numbers = [
+                serial,
+                s.m,
+                s.t,
+                s.v,
+                start,
+                count,
+                0,
+                generation,
+                number,
+                left,
+            ];
             Row { numbers }
         }
         Reading::Refused(refusal) => {
-            let numbers = [serial, m, t, v, first, bytes, refusal, 0, 0, 0];
+            let numbers = [serial, s.m, s.t, s.v, start, count, refusal, 0, 0, 0];
             Row { numbers }
         }
     }
 }
 
 fn put_row(rows: &mut [u64], place: usize, row: Row) -> usize
-    requires { ⌜ place + 10 ≤ length (now rows) ⌝ }
+    requires { ⌜ place + rowLength ≤ length (now rows) ⌝ }
     ensures { λ r. ⌜ Put (now (rows .entry)) (now (rows .exit)) place (row .numbers) r ⌝ }
 {
     let numbers = row.numbers;
@@ -284,27 +268,20 @@ pub fn walk(dump: &[u8], at: usize, rows: &mut [u64]) -> Walked
     if DUMP_MOST < dump.len() {
         return halt_walk(Halt::Oversize, 0, 0);
     }
+    let mut h = [0u64; 16];
     let mut kept = keep_none();
     let mut next = at;
     let mut done: u64 = 0;
     let mut place = 0;
     while ROW <= rows.len() - place {
-        let s = step_kept(dump, next, kept);
+        let s = step_kept(dump, next, &mut h, kept);
         let step = s.step;
         kept = s.kept;
         match step {
-            Step::Record {
-                serial,
-                m,
-                t,
-                v,
-                start,
-                count,
-                outcome,
-            } => {
-                let row = make_row(serial, m, t, v, start, count, outcome);
+            Step::Record { record, outcome } => {
+                let row = make_row(record, outcome);
                 place = put_row(rows, place, row);
-                next = start + count;
+                next = record.start + record.count;
                 done += 1;
             }
             Step::End => {

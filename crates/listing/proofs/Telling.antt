@@ -7,35 +7,37 @@ use native.Mathlib.Omega.{arith}
 use native.Mathlib.Numerals.{add-one}
 use lib.ListN.{length, take, drop}
 use lib.Seq.{take-at}
-use Rattle.code.specs.Dump.{stepReply, recordLine, lastLine, lines, textFrom}
+use Rattle.code.specs.declared.Record as Declared
+use Rattle.code.specs.Dump.{cellsOf, outcome, stepReply, recordLine, lastLine, lines, textFrom}
 use Rattle.code.proofs.Tests.{clash, same-test}
-use Rattle.code.proofs.Replies.{read-refusing}
+use Rattle.code.proofs.ReadCall.{read-refusing}
 use Rattle.code.proofs.Walk.{walk-ended, walk-stopped, onward-taken}
 use Rattle.field.specs.Answers.{readingOf}
 use Rattle.field.specs.declared.Reading.{Reading}
 use Rattle.storing.specs.Put.{Put}
 use Rattle.storing.proofs.Put.{put-none, put-then, put-length, put-pastes}
-use Rattle.text.specs.Within.{PutWithin}
+use Rattle.text.specs.Within.{PutWithin, closingLine}
 use Rattle.text.proofs.Laws.{wider}
 use Rattle.dump.specs.Answers.{haltNumber, haltCarries, stepOf}
 use Rattle.dump.specs.declared.Halt.{Halt}
 use Rattle.dump.specs.declared.Step.{Step}
 use Rattle.dump.specs.declared.Step.the-variants.{Record, End, Stop}
 use Rattle.dump.proofs.Steps.{gives-record, gives-end, gives-stop, record-further}
-use Rattle.listing.specs.Listing.{Refusing, haltLines, textLeft, Standing, GoesOn, Closed, Tells, Fills}
+use Rattle.listing.specs.Listing.{linesMost, Refusing, haltLines, textLeft, Standing, GoesOn, Closed, Tells, Fills}
 use Rattle.listing.specs.declared.Listing.{Listing}
 use Rattle.listing.specs.declared.Told.{Told}
 
 module _ (bytes : List ℕ) (at : ℕ) {s : Step} (gives : stepOf s ≡ stepReply bytes at) where
-  module _ {serial m t v start n : ℕ} {outcome : Reading} (e : s ≡ Record serial m t v start n outcome) where
-    record-text : (count : ℕ) → textFrom bytes at count ≡ recordLine serial (readingOf outcome) ++ textFrom bytes (start + n) (count + 1)
+  module _ {r : Declared.Record} {reading : Reading} (e : s ≡ Record r reading) where
+    record-text : (count : ℕ) → textFrom bytes at count ≡ recordLine (r .serial) (readingOf reading) ++ textFrom bytes (r .start + r .count) (count + 1)
     unfolding lines
     record-text count =
         let told = gives-record bytes at gives e in
-        rw (onward-taken bytes at serial m t v start n (told .0), told .1, add-one count)
+        rw (onward-taken bytes at r (told .0), told .1, add-one count)
 
-    pub record-refusing : Refusing (readingOf outcome)
-    record-refusing = rw (← gives-record bytes at gives e .1) (read-refusing m t v (take n (drop start bytes)))
+    pub record-refusing : Refusing (readingOf reading)
+    unfolding outcome
+    record-refusing = rw (← gives-record bytes at gives e .1) (read-refusing (r .shape) (cellsOf bytes r))
 
   end-text : (count : ℕ) → s ≡ End → textFrom bytes at count ≡ lastLine count
   unfolding lines
@@ -45,14 +47,15 @@ module _ (bytes : List ℕ) (at : ℕ) {s : Step} (gives : stepOf s ≡ stepRepl
   unfolding lines
   stop-text count {halt} e = rw (walk-stopped (length bytes - at) bytes at (haltNumber halt) (haltCarries halt) (gives-stop bytes at gives e))
 
-pub same-listing : {s r : Listing} → s .next ≡ r .next → s .count ≡ r .count → _≡_ {A = ℕ} (cond (s .over) 1 0) (cond (r .over) 1 0) → s .kept ≡ r .kept → s ≡ r
-same-listing {s} {r} a b c d =
+pub same-listing : {s r : Listing} → s .next ≡ r .next → s .count ≡ r .count → _≡_ {A = ℕ} (cond (s .over) 1 0) (cond (r .over) 1 0) → s ≡ r
+same-listing {s} {r} a b c =
     let o : s .over ≡ r .over = same-test (s .over) (r .over) c in
-    λ i. record { next = a i; count = b i; over = o i; kept = d i }
+    λ i. record { next = a i; count = b i; over = o i }
 
 -- so each step's lines are told
 module _ {bytes : List ℕ} {l : Listing} {before after : List ℕ} {at : ℕ} {r : Told} (on : l .over ≡ false) where
-  closes : (piece : List ℕ) → textFrom bytes (l .next) (l .count) ≡ piece → Closed (r .listing) → PutWithin 84 before after at piece (r .end) → Tells bytes l before after at r
+  closes : (piece : List ℕ) → textFrom bytes (l .next) (l .count) ≡ piece → Closed (r .listing) →
+      PutWithin linesMost before after at piece (r .end) → Tells bytes l before after at r
   closes piece e c p = record {
     piece = piece;
     put = p;
@@ -62,20 +65,21 @@ module _ {bytes : List ℕ} {l : Listing} {before after : List ℕ} {at : ℕ} {
   }
 
   module _ {s : Step} (gives : stepOf s ≡ stepReply bytes (l .next)) where
-    pub tells-record : {serial m t v start n : ℕ} {outcome : Reading} {behind : Listing} → s ≡ Record serial m t v start n outcome → GoesOn l (start + n) behind →
-        (r .listing ≡ behind) × PutWithin 84 before after at (recordLine serial (readingOf outcome)) (r .end) → Tells bytes l before after at r
-    tells-record {serial} {outcome = outcome} e g p = record {
-      piece = recordLine serial (readingOf outcome);
+    pub tells-record : {p : Declared.Record} {reading : Reading} {behind : Listing} → s ≡ Record p reading → GoesOn l (p .start + p .count) behind →
+        (r .listing ≡ behind) × PutWithin linesMost before after at (recordLine (p .serial) (readingOf reading)) (r .end) → Tells bytes l before after at r
+    tells-record {p = entry} {reading} e g p = record {
+      piece = recordLine (entry .serial) (readingOf reading);
       put = p .1;
       text = rw (on, p .0, g .on, g .further, g .counted) (record-text bytes (l .next) gives e (l .count));
       standing = rw (p .0) (g .standing);
       further = rw (p .0, g .further) (λ q. record-further bytes (l .next) gives e .0);
     }
 
-    pub tells-end : s ≡ End → Closed (r .listing) → PutWithin 29 before after at (lastLine (l .count)) (r .end) → Tells bytes l before after at r
+    pub tells-end : s ≡ End → Closed (r .listing) → PutWithin closingLine before after at (lastLine (l .count)) (r .end) → Tells bytes l before after at r
     tells-end e c p = closes (lastLine (l .count)) (end-text bytes (l .next) gives (l .count) e) c (wider (omega arith) p)
 
-    pub tells-stop : {halt : Halt} → s ≡ Stop halt → Closed (r .listing) → PutWithin 84 before after at (haltLines (l .count) halt) (r .end) → Tells bytes l before after at r
+    pub tells-stop : {halt : Halt} → s ≡ Stop halt → Closed (r .listing) →
+        PutWithin linesMost before after at (haltLines (l .count) halt) (r .end) → Tells bytes l before after at r
     tells-stop {halt} e c p = closes (haltLines (l .count) halt) (stop-text bytes (l .next) gives (l .count) e) c p
 
 -- lines one after the other fill the front of the output
@@ -107,7 +111,7 @@ module _ {bytes : List ℕ} {start : Listing} {before after : List ℕ} {s : Lis
       let front : take end after ≡ f .told = rw (put-pastes (f .put) (f .inside)) (take-at (f .told) (drop end before) end (omega (arith, f .put .ends))) in
       record { text = rw front (f .text); inside = omega (arith, f .inside, f .same); standing = f .standing; further = further }
 
-  pub filling-next : {last : List ℕ} {r : Told} → s .over ≡ false → 84 ≤ length before - end → Tells bytes s after last end r →
+  pub filling-next : {last : List ℕ} {r : Told} → s .over ≡ false → linesMost ≤ length before - end → Tells bytes s after last end r →
       Filling bytes start before last (r .listing) (r .end)
   filling-next {last} {r} on room t = record {
     told = f .told ++ t .piece;

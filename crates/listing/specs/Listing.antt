@@ -5,11 +5,15 @@ use mathlib.Core.Bool.{true, false, cond}
 use mathlib.Core.List.{List, [], _∷_, _++_}
 use lib.ListN.{length, take}
 use Rattle.code.specs.Dump.{stopLines, textFrom}
-use Rattle.text.specs.Within.{PutWithin}
-use Rattle.dump.specs.Answers.{haltNumber, haltCarries, Right}
+use Rattle.text.specs.Within.{PutWithin, readingLine}
+use Rattle.dump.specs.Answers.{dumpMost, haltNumber, haltCarries}
 use Rattle.dump.specs.declared.Halt.{Halt}
 use Rattle.listing.specs.declared.Listing.{Listing}
 use Rattle.listing.specs.declared.Told.{Told}
+
+-- the most bytes that a step's lines take
+abbrev pub linesMost : ℕ
+linesMost = readingLine
 
 -- a reply of one number is a refusal
 abbrev pub Refusing : List ℕ → Type 0
@@ -23,11 +27,10 @@ haltLines count halt = stopLines count (haltNumber halt) (haltCarries halt)
 abbrev pub textLeft : List ℕ → Listing → List ℕ
 textLeft bytes s = cond (s .over) [] (textFrom bytes (s .next) (s .count))
 
--- a listing comes by no more records than bytes, and its kept layout is right
+-- a listing comes by no more records than bytes
 pub record Standing (s : Listing) : Type 0 where
-  pub right : Right (s .kept)
   pub few : s .count ≤ s .next
-  pub within : s .next ≤ 65536
+  pub within : s .next ≤ dumpMost
 
 -- the listing behind a record that ends at `next`
 pub record GoesOn (s : Listing) (next : ℕ) (r : Listing) : Type 0 where
@@ -43,7 +46,7 @@ Closed s = Standing s × (s .over ≡ true)
 -- a step's lines are told from a place of the output on
 pub record Tells (bytes : List ℕ) (s : Listing) (before after : List ℕ) (at : ℕ) (r : Told) : Type 0 where
   pub piece : List ℕ
-  pub put : PutWithin 84 before after at piece (r .end)
+  pub put : PutWithin linesMost before after at piece (r .end)
   pub text : textLeft bytes s ≡ piece ++ textLeft bytes (r .listing)
   pub standing : Standing (r .listing)
   pub further : r .listing .over ≡ false → s .next < r .listing .next

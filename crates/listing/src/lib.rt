@@ -1,51 +1,46 @@
 // The text of a listing, told piece by piece into a lent output: document 01, "`fieldlist` reads standard input and prints one line per record".
 use dump::Halt;
-use dump::Kept;
 use dump::Step;
 use field::Reading;
 ghost use mathlib.Core.Path.{_≡_};
 ghost use mathlib.Core.Bool.{false};
 ghost use Prim.Native.Nat.{_+_, _≤_, _<_};
 ghost use lib.ListN.{length};
-ghost use Rattle.code.specs.Dump.{recordLine};
+ghost use Rattle.code.specs.Dump.{stepReply, recordLine};
 ghost use Rattle.field.specs.Answers.{readingOf};
 ghost use Rattle.text.specs.Within.{PutWithin};
-ghost use Rattle.dump.specs.Answers.{Right};
-ghost use Rattle.listing.specs.Listing.{Refusing, haltLines, Standing, GoesOn, Closed, Tells, Fills};
+ghost use Rattle.dump.specs.Answers.{dumpMost, stepOf};
+ghost use Rattle.listing.specs.Listing.{linesMost, Refusing, haltLines, Standing, GoesOn, Closed, Tells, Fills};
 
 // The most bytes that a step's lines take.
-const LINE: usize = 84;
+const LINES_MOST: usize = 84;
 
 // How far a listing is told: where the next step starts, the records before it, and whether all is told.
 pub struct Listing {
     pub next: usize,
     pub count: u64,
     pub over: bool,
-    pub kept: Kept,
 }
 
 pub fn start_listing() -> Listing
     ensures { λ r. ⌜ Standing r × (r .next ≡ 0) × (r .count ≡ 0) × (r .over ≡ false) ⌝ }
 {
-    let kept = dump::keep_none();
     Listing {
         next: 0,
         count: 0,
         over: false,
-        kept,
     }
 }
 
 // The listing behind a record.
-fn go_on(s: Listing, next: usize, kept: Kept) -> Listing
-    requires { ⌜ Standing s × (s .next < next) × (next ≤ 65536) × Right kept ⌝ }
+fn go_on(s: Listing, next: usize) -> Listing
+    requires { ⌜ Standing s × (s .next < next) × (next ≤ dumpMost) ⌝ }
     ensures { λ r. ⌜ GoesOn s next r ⌝ }
 {
     Listing {
         next,
         count: s.count + 1,
         over: false, // "refusals 1 to 4 belong to that record and the walk goes on"
-        kept,
     }
 }
 
@@ -66,8 +61,8 @@ pub struct Told {
 
 // Tells the line of a record, behind which the listing goes on, refused or not.
 fn tell_outcome(out: &mut [u8], at: usize, serial: u64, outcome: Reading, listing: Listing) -> Told
-    requires { ⌜ (at + 84 ≤ length (now out)) × Refusing (readingOf outcome) ⌝ }
-    ensures { λ r. ⌜ (r .listing ≡ listing) × PutWithin 84 (now (out .entry)) (now (out .exit)) at (recordLine serial (readingOf outcome)) (r .end) ⌝ }
+    requires { ⌜ (at + linesMost ≤ length (now out)) × Refusing (readingOf outcome) ⌝ }
+    ensures { λ r. ⌜ (r .listing ≡ listing) × PutWithin linesMost (now (out .entry)) (now (out .exit)) at (recordLine serial (readingOf outcome)) (r .end) ⌝ }
 {
     match outcome {
         Reading::Read {
@@ -87,8 +82,8 @@ fn tell_outcome(out: &mut [u8], at: usize, serial: u64, outcome: Reading, listin
 
 // The lines that end the listing of a dump whose walk stops before the end.
 fn put_halt_lines(out: &mut [u8], at: usize, count: u64, halt: Halt) -> usize
-    requires { ⌜ at + 84 ≤ length (now out) ⌝ }
-    ensures { λ r. ⌜ PutWithin 84 (now (out .entry)) (now (out .exit)) at (haltLines count halt) r ⌝ }
+    requires { ⌜ at + linesMost ≤ length (now out) ⌝ }
+    ensures { λ r. ⌜ PutWithin linesMost (now (out .entry)) (now (out .exit)) at (haltLines count halt) r ⌝ }
 {
     match halt {
         Halt::Malformed { offset } => text::put_stop_lines(out, at, count, offset as u64),
@@ -96,26 +91,16 @@ fn put_halt_lines(out: &mut [u8], at: usize, count: u64, halt: Halt) -> usize
     }
 }
 
-// Tells the lines of one step.
-fn tell(dump: &[u8], s: Listing, out: &mut [u8], at: usize) -> Told
-    requires { ⌜ Standing s × (s .over ≡ false) × (at + 84 ≤ length (now out)) ⌝ }
+// Tells the lines of the step that is due. The dump stands here for the promise alone.
+fn tell(dump: &[u8], s: Listing, step: Step, out: &mut [u8], at: usize) -> Told
+    requires { ⌜ Standing s × (s .over ≡ false) × (at + linesMost ≤ length (now out)) ⌝ }
+    requires { ⌜ stepOf «step» ≡ stepReply (now dump) (s .next) ⌝ }
     ensures { λ r. ⌜ Tells (now (dump .entry)) s (now (out .entry)) (now (out .exit)) at r ⌝ }
 {
-    let stepped = dump::step_kept(dump, s.next, s.kept);
-    let step = stepped.step;
-    let kept = stepped.kept;
     match step {
-        Step::Record {
-            serial,
-            m: _,
-            t: _,
-            v: _,
-            start,
-            count,
-            outcome,
-        } => {
-            let listing = go_on(s, start + count, kept);
-            tell_outcome(out, at, serial, outcome, listing)
+        Step::Record { record, outcome } => {
+            let listing = go_on(s, record.start + record.count);
+            tell_outcome(out, at, record.serial, outcome, listing)
         }
         Step::End => {
             let end = text::put_last_line(out, at, s.count);
@@ -132,13 +117,18 @@ fn tell(dump: &[u8], s: Listing, out: &mut [u8], at: usize) -> Told
 
 // Tells the next lines, as many as surely fit.
 pub fn fill(dump: &[u8], start: Listing, out: &mut [u8]) -> Told
-    requires { ⌜ Standing start × (start .over ≡ false) × (84 ≤ length (now out)) ⌝ }
+    requires { ⌜ Standing start × (start .over ≡ false) × (linesMost ≤ length (now out)) ⌝ }
     ensures { λ r. ⌜ Fills (now (dump .entry)) start (now (out .exit)) r ⌝ }
 {
     let mut s = start;
+    let mut h = [0u64; 16];
+    let mut kept = dump::keep_none();
     let mut end = 0;
-    while LINE <= out.len() - end {
-        let told = tell(dump, s, out, end);
+    while LINES_MOST <= out.len() - end {
+        let stepped = dump::step_kept(dump, s.next, &mut h, kept);
+        kept = stepped.kept;
+        let step = stepped.step;
+        let told = tell(dump, s, step, out, end);
         s = told.listing;
         end = told.end;
         if s.over {

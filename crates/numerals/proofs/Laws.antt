@@ -78,8 +78,10 @@ module _ {bytes : List ℕ} {at value worth i : ℕ} (r : Reading bytes at value
   unfolding after
   reading-zero inside e = rw (ahead inside, read-last (8 - r .k) (getD bytes i 0) (drop (suc i) bytes) (omega arith), e)
 
-  pub reading-last : i < length bytes → 0 < getD bytes i 0 → getD bytes i 0 < 128 → readSevens 9 (drop at bytes) ≡ numeral (value + getD bytes i 0 * worth) (r .k + 1)
-  reading-last inside some low = rw (ahead inside, read-last (8 - r .k) (getD bytes i 0) (drop (suc i) bytes) low, after-some value worth (r .k) (getD bytes i 0) 1 some)
+  pub reading-last : i < length bytes → 0 < getD bytes i 0 → getD bytes i 0 < 128 →
+      readSevens 9 (drop at bytes) ≡ numeral (value + getD bytes i 0 * worth) (r .k + 1)
+  reading-last inside some low =
+      rw (ahead inside, read-last (8 - r .k) (getD bytes i 0) (drop (suc i) bytes) low, after-some value worth (r .k) (getD bytes i 0) 1 some)
 
   below : r .k < 8 → 128 ^ r .k ≤ 2 ^ 49
   below h = pow-le-pow-right {n = 128} (omega arith) {i = r .k} {j = 7} (omega arith)
@@ -90,7 +92,8 @@ module _ {bytes : List ℕ} {at value worth i : ℕ} (r : Reading bytes at value
       let e : r .k ≡ 8 = le-antisymm (r .most) (elim (le-or-lt 8 (r .k)) [ inl h ↦ h | inr h ↦ absurd (omega (arith, r .power, below h)) ]) in
       rw (ahead inside, read-more (8 - r .k) (getD bytes i 0) (drop (suc i) bytes) high, e)
 
-  pub reading-next : i < length bytes → 128 ≤ getD bytes i 0 → getD bytes i 0 < 256 → worth < 2 ^ 56 → Reading bytes at (value + (getD bytes i 0 - 128) * worth) (worth * 128) (i + 1)
+  pub reading-next : i < length bytes → 128 ≤ getD bytes i 0 → getD bytes i 0 < 256 → worth < 2 ^ 56 →
+      Reading bytes at (value + (getD bytes i 0 - 128) * worth) (worth * 128) (i + 1)
   reading-next inside high byte before =
       let b : ℕ = getD bytes i 0 in
       let most : r .k < 8 = lt-of-le-ne (r .most) (λ e. absurd (omega (arith, r .power, ap (λ n. 128 ^ n) e))) in
@@ -102,5 +105,12 @@ module _ {bytes : List ℕ} {at value worth i : ℕ} (r : Reading bytes at value
         power = ap (λ w. w * 128) (r .power) ∙ sym (pow-suc 128 (r .k));
         small = omega (arith, r .small, mul-le-mul-right {m = b - 128} {n = 127} worth (omega arith));
         large = omega (arith, r .power, below most);
-        same = rw (add-one i, ahead inside, read-more (8 - r .k) b (drop (suc i) bytes) high, after-more value worth (r .k) b (readSevens (8 - r .k) (drop (suc i) bytes)), left);
+        same = rw (
+          add-one i,
+          ahead inside,
+          read-more (8 - r .k) b (drop (suc i) bytes) high,
+          after-more value worth (r .k) b
+              (readSevens (8 - r .k) (drop (suc i) bytes)),
+          left,
+        );
       }

@@ -1,10 +1,19 @@
--- What reading a number of a dump answers.
+-- What reading numbers of a dump answers.
 use Prim.Native.Nat.{ℕ, _+_}
+use mathlib.Core.List.{List}
 use Rattle.code.specs.Dump.{Numeral, malformed, numeral}
+use Rattle.code.specs.Dump as Dump
 use Rattle.numerals.specs.declared.Number.{Number}
 use Rattle.numerals.specs.declared.Number.the-variants.{Found, Malformed}
+use Rattle.numerals.specs.declared.Numbers.{Numbers}
+use Rattle.numerals.specs.declared.Numbers.the-variants.{Read, Cut}
 
 -- of the numeral that stands at a place: its value and the place behind it
 abbrev pub numberOf : ℕ → Numeral → Number
 numberOf at malformed = Malformed
 numberOf at (numeral x n) = Found x (at + n)
+
+-- of the numbers that are stored: these and the place behind them, or that they are cut off
+abbrev pub numbersOf : List ℕ → Numbers → Dump.Numbers
+numbersOf xs Cut = Dump.cut
+numbersOf xs (Read end) = Dump.numbers xs end

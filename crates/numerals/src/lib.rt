@@ -2,9 +2,10 @@
 ghost use mathlib.Core.Path.{_≡_};
 ghost use Prim.Native.Nat.{_+_, _-_, _^_, _<_, _≤_};
 ghost use lib.ListN.{length, getD, drop};
-ghost use Rattle.code.specs.Dump.{sevens, readSevens};
+ghost use Rattle.code.specs.Lists.{Below};
+ghost use Rattle.code.specs.Dump.{sevens, readSevens, numeralsOf, readNumbers};
 ghost use Rattle.storing.specs.Put.{Put};
-ghost use Rattle.numerals.specs.Number.{numberOf};
+ghost use Rattle.numerals.specs.Number.{numberOf, numbersOf};
 
 pub enum Number {
     Found { value: u64, next: usize },
@@ -85,4 +86,53 @@ pub fn write_number(out: &mut [u8], at: usize, x: u64) -> usize
     }
     out[place] = rest as u8;
     place + 1
+}
+
+// Numbers one after the other: the place behind them.
+pub enum Numbers {
+    Read { end: usize },
+    Cut,
+}
+
+// Reads as many numbers as there are places for.
+pub fn read_numbers(bytes: &[u8], at: usize, numbers: &mut [u64]) -> Numbers
+    ensures { λ r. ⌜ numbersOf (now (numbers .exit)) r ≡ readNumbers (length (now (numbers .entry))) (now (bytes .entry)) at ⌝ }
+{
+    let mut end = at;
+    let mut i = 0;
+    while i < numbers.len() {
+        let Number::Found { value, next } = read_number(bytes, end) else {
+            return Numbers::Cut;
+        };
+        numbers[i] = value;
+        end = next;
+        i += 1;
+    }
+    Numbers::Read { end }
+}
+
+pub fn numbers_length(numbers: &[u64]) -> usize
+    requires { ⌜ (Below (2 ^ 63) (now numbers)) × (length (now numbers) < 2 ^ 32) ⌝ }
+    ensures { λ r. ⌜ r ≡ length (numeralsOf (now (numbers .entry))) ⌝ }
+{
+    let mut total = 0;
+    let mut i = 0;
+    while i < numbers.len() {
+        total += number_length(numbers[i]);
+        i += 1;
+    }
+    total
+}
+
+pub fn write_numbers(out: &mut [u8], at: usize, numbers: &[u64]) -> usize
+    requires { ⌜ (Below (2 ^ 63) (now numbers)) × (at + length (numeralsOf (now numbers)) ≤ length (now out)) ⌝ }
+    ensures { λ r. ⌜ Put (now (out .entry)) (now (out .exit)) at (numeralsOf (now (numbers .entry))) r ⌝ }
+{
+    let mut place = at;
+    let mut i = 0;
+    while i < numbers.len() {
+        place = write_number(out, place, numbers[i]);
+        i += 1;
+    }
+    place
 }

@@ -6,5 +6,5 @@ use Rattle.records.specs.declared.Head.the-variants.{Whole, Malformed}
 
 -- as a step of the walk: "7 also the offset of the record's first byte"
 abbrev pub stepOf : Head → Step
-stepOf (Whole serial m t v start count) = taken serial m t v start count
+stepOf (Whole r) = taken r
 stepOf (Malformed offset) = stopped 7 (offset ∷ [])

@@ -1,5 +1,7 @@
 // The records of a dump: serial, m, t, v, n as numbers, then n bytes.
-use numerals::Number;
+use code::Record;
+use code::Shape;
+use numerals::Numbers;
 ghost use mathlib.Core.Path.{_≡_};
 ghost use mathlib.Core.List.{List, [], _∷_};
 ghost use Prim.Native.Nat.{ℕ, _^_, _≤_};
@@ -10,46 +12,32 @@ ghost use Rattle.storing.specs.Put.{fronted};
 ghost use Rattle.records.specs.Head.{stepOf};
 
 pub enum Head {
-    // The cells are the `count` bytes from `start` on.
-    Whole {
-        serial: u64,
-        m: u64,
-        t: u64,
-        v: u64,
-        start: usize,
-        count: usize,
-    },
-    Malformed {
-        offset: usize,
-    },
+    Whole(Record),
+    Malformed { offset: usize },
 }
 
 pub fn read_head(dump: &[u8], at: usize) -> Head
     ensures { λ r. ⌜ stepOf r ≡ recordAt (now (dump .entry)) at (readNumbers 5 (now (dump .entry)) at) ⌝ }
 {
     let mut numbers = [0u64; 5];
-    let mut start = at;
-    let mut i = 0;
-    while i < 5 {
-        let Number::Found { value, next } = numerals::read_number(dump, start) else {
-            return Head::Malformed { offset: at };
-        };
-        numbers[i] = value;
-        start = next;
-        i += 1;
-    }
+    let Numbers::Read { end } = numerals::read_numbers(dump, at, &mut numbers) else {
+        return Head::Malformed { offset: at };
+    };
     let count = numbers[4];
-    if count <= (dump.len() - start) as u64 {
-        return Head::Whole {
-            serial: numbers[0],
-            m: numbers[1],
-            t: numbers[2],
-            v: numbers[3],
-            start,
-            count: count as usize,
-        };
+    if ((dump.len() - end) as u64) < count {
+        return Head::Malformed { offset: at };
     }
-    Head::Malformed { offset: at }
+    let shape = Shape {
+        m: numbers[1],
+        t: numbers[2],
+        v: numbers[3],
+    };
+    Head::Whole(Record {
+        serial: numbers[0],
+        shape,
+        start: end,
+        count: count as usize,
+    })
 }
 
 // The cells of a record, as a part of the dump.
@@ -70,13 +58,7 @@ pub fn record_length(serial: u64, m: u64, t: u64, v: u64, count: usize) -> usize
     ensures { λ r. ⌜ ((cells : List ℕ) → length cells ≡ count → r ≡ length (recordOf serial m t v cells)) ⌝ }
 {
     let numbers = [serial, m, t, v, count as u64];
-    let mut total = count;
-    let mut i = 0;
-    while i < 5 {
-        total += numerals::number_length(numbers[i]);
-        i += 1;
-    }
-    total
+    count + numerals::numbers_length(&numbers)
 }
 
 // The record at the front of `out`.
@@ -87,11 +69,6 @@ pub fn put_record(out: &mut [u8], serial: u64, m: u64, t: u64, v: u64, cells: &[
     ensures { λ r. ⌜ now (out .exit) ≡ fronted (recordOf serial m t v (now (cells .entry))) (now (out .entry)) ⌝ }
 {
     let numbers = [serial, m, t, v, cells.len() as u64];
-    let mut at = 0;
-    let mut i = 0;
-    while i < 5 {
-        at = numerals::write_number(out, at, numbers[i]);
-        i += 1;
-    }
+    let at = numerals::write_numbers(out, 0, &numbers);
     storing::put_bytes(out, at, cells)
 }

@@ -37,7 +37,8 @@ pub storing-begin : (b : List ℕ) (at : ℕ) (ys : List ℕ) → Storing b at y
 storing-begin b at ys = record { same = refl; due = refl; ends = refl }
 
 -- the first, or the last, of what is left is stored where it is due
-pub storing-first : {b c all ys : List ℕ} {from at y end place x : ℕ} → Storing b from all c at (y ∷ ys) end → place ≡ at → x ≡ y → Storing b from all (set c place x) (at + 1) ys end
+pub storing-first : {b c all ys : List ℕ} {from at y end place x : ℕ} → Storing b from all c at (y ∷ ys) end → place ≡ at → x ≡ y →
+    Storing b from all (set c place x) (at + 1) ys end
 storing-first {c} {at} {y} s p q = rw (p, q) record { same = length-set c at y ∙ s .same; due = rw add-one (s .due); ends = omega (arith, s .ends) }
 
 sets-last : (b : List ℕ) (at : ℕ) (ys : List ℕ) (y : ℕ) → sets b at (ys ++ (y ∷ [])) ≡ sets (set b (at + length ys) y) at ys
@@ -46,7 +47,8 @@ sets-last b at (x ∷ ys) y =
     let e : at + suc (length ys) ≡ suc at + length ys = omega arith in
     sets-last (set b at x) (suc at) ys y ∙ rw (e, set-comm b (suc at + length ys) at y x (λ q. absurd (omega arith)))
 
-pub storing-last : {b c all : List ℕ} {from at end place x : ℕ} (ys : List ℕ) (y : ℕ) → Storing b from all c at (ys ++ (y ∷ [])) (end + 1) → place ≡ end → x ≡ y → Storing b from all (set c place x) at ys end
+pub storing-last : {b c all : List ℕ} {from at end place x : ℕ} (ys : List ℕ) (y : ℕ) → Storing b from all c at (ys ++ (y ∷ [])) (end + 1) → place ≡ end →
+    x ≡ y → Storing b from all (set c place x) at ys end
 storing-last {c} {at} {end} ys y s p q =
     let e : end ≡ at + length ys = omega (arith, s .ends, length-append ys (y ∷ [])) in
     rw (p, q) record { same = length-set c end y ∙ s .same; due = rw (e, ← sets-last c at ys y) (s .due); ends = e }

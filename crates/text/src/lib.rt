@@ -4,7 +4,7 @@ ghost use mathlib.Core.List.{[], _∷_, _++_};
 ghost use Prim.Native.Nat.{ℕ, _+_, _<_, _≤_};
 ghost use lib.ListN.{length};
 ghost use Rattle.code.specs.Dump.{decimal, recordLine, lastLine, stopLines};
-ghost use Rattle.text.specs.Within.{PutWithin};
+ghost use Rattle.text.specs.Within.{PutWithin, readingLine, refusalLine, closingLine, stoppingLines, oversizeLine};
 
 fn decimal_length(x: u64) -> usize
     ensures { λ r. ⌜ r ≡ length (decimal x) ⌝ }
@@ -52,8 +52,8 @@ pub fn put_reading_line(
     number: u64,
     left: u64,
 ) -> usize
-    requires { ⌜ at + 84 ≤ length (now out) ⌝ }
-    ensures { λ r. ⌜ PutWithin 84 (now (out .entry)) (now (out .exit)) at (recordLine serial (0 ∷ generation ∷ number ∷ left ∷ [])) r ⌝ }
+    requires { ⌜ at + readingLine ≤ length (now out) ⌝ }
+    ensures { λ r. ⌜ PutWithin readingLine (now (out .entry)) (now (out .exit)) at (recordLine serial (0 ∷ generation ∷ number ∷ left ∷ [])) r ⌝ }
 {
     let first = put_decimal(out, at, serial);
     let second = put_labelled(out, first, b" ", generation);
@@ -64,8 +64,8 @@ pub fn put_reading_line(
 
 // The line of a record that is refused.
 pub fn put_refusal_line(out: &mut [u8], at: usize, serial: u64, refusal: u64) -> usize
-    requires { ⌜ (0 < refusal) × (at + 50 ≤ length (now out)) ⌝ }
-    ensures { λ r. ⌜ PutWithin 50 (now (out .entry)) (now (out .exit)) at (recordLine serial (refusal ∷ [])) r ⌝ }
+    requires { ⌜ (0 < refusal) × (at + refusalLine ≤ length (now out)) ⌝ }
+    ensures { λ r. ⌜ PutWithin refusalLine (now (out .entry)) (now (out .exit)) at (recordLine serial (refusal ∷ [])) r ⌝ }
 {
     let first = put_decimal(out, at, serial);
     let second = put_labelled(out, first, b" refused ", refusal);
@@ -73,8 +73,8 @@ pub fn put_refusal_line(out: &mut [u8], at: usize, serial: u64, refusal: u64) ->
 }
 
 pub fn put_last_line(out: &mut [u8], at: usize, count: u64) -> usize
-    requires { ⌜ at + 29 ≤ length (now out) ⌝ }
-    ensures { λ r. ⌜ PutWithin 29 (now (out .entry)) (now (out .exit)) at (lastLine count) r ⌝ }
+    requires { ⌜ at + closingLine ≤ length (now out) ⌝ }
+    ensures { λ r. ⌜ PutWithin closingLine (now (out .entry)) (now (out .exit)) at (lastLine count) r ⌝ }
 {
     let first = put_labelled(out, at, b"records ", count);
     storing::put_byte(out, first, b'\n')
@@ -82,8 +82,8 @@ pub fn put_last_line(out: &mut [u8], at: usize, count: u64) -> usize
 
 // The lines that end the listing of a dump with a malformed record.
 pub fn put_stop_lines(out: &mut [u8], at: usize, count: u64, offset: u64) -> usize
-    requires { ⌜ at + 63 ≤ length (now out) ⌝ }
-    ensures { λ r. ⌜ PutWithin 63 (now (out .entry)) (now (out .exit)) at (stopLines count 7 (offset ∷ [])) r ⌝ }
+    requires { ⌜ at + stoppingLines ≤ length (now out) ⌝ }
+    ensures { λ r. ⌜ PutWithin stoppingLines (now (out .entry)) (now (out .exit)) at (stopLines count 7 (offset ∷ [])) r ⌝ }
 {
     let first = put_labelled(out, at, b"stopped 7 at ", offset);
     let second = storing::put_byte(out, first, b'\n');
@@ -92,8 +92,8 @@ pub fn put_stop_lines(out: &mut [u8], at: usize, count: u64, offset: u64) -> usi
 
 // The only line of a dump that is too long.
 pub fn put_oversize_line(out: &mut [u8], at: usize) -> usize
-    requires { ⌜ at + 10 ≤ length (now out) ⌝ }
-    ensures { λ r. ⌜ ((count : ℕ) → PutWithin 10 (now (out .entry)) (now (out .exit)) at (stopLines count 8 []) r) ⌝ }
+    requires { ⌜ at + oversizeLine ≤ length (now out) ⌝ }
+    ensures { λ r. ⌜ ((count : ℕ) → PutWithin oversizeLine (now (out .entry)) (now (out .exit)) at (stopLines count 8 []) r) ⌝ }
 {
     storing::put_bytes(out, at, b"refused 8\n")
 }

@@ -1,11 +1,12 @@
 -- `dump::make_row` meets its contract. Assumes nothing.
 use borrow.Author.Needs.{needs}
 use Rattle.code.specs.Calls.{filled}
+use Rattle.code.specs.Dump.{recordNumbers}
 use Rattle.dump.proofs.make_row.Statement.{statement}
 use Rattle.dump.proofs.make_row.Tie as tie
 
 pub make-row-spec : {M : Type 1} → statement M
-unfolding filled
+unfolding filled recordNumbers
 make-row-spec =
     tie.close
     (tie.spec

@@ -9,14 +9,16 @@ use borrow.Author.Needs.{needs}
 use lib.ListN.{length, getD, drop, drop-of-length-le}
 use lib.Seq.{drop-cons}
 use Rattle.storing.proofs.Put.{Storing, storing-begin, storing-first, storing-end}
+use Rattle.dump.specs.Answers.{rowLength}
 use Rattle.dump.proofs.put_row.Statement.{statement}
 use Rattle.dump.proofs.put_row.Tie as tie
 
 abbrev Inv-loop : tie.InvT-loop
-Inv-loop rows₀ place numbers i₀ rows i = (i ≤ 10) × (length numbers ≡ 10) × Storing rows₀ place numbers rows (place + i) (drop i numbers) (place + length numbers)
+Inv-loop rows₀ place numbers i₀ rows i =
+    (i ≤ rowLength) × (length numbers ≡ rowLength) × Storing rows₀ place numbers rows (place + i) (drop i numbers) (place + length numbers)
 
 abbrev μ-loop : tie.MeasureT-loop
-μ-loop rows₀ place numbers i₀ rows i = 10 - i
+μ-loop rows₀ place numbers i₀ rows i = rowLength - i
 
 pub put-row-spec : {M : Type 1} → statement M
 put-row-spec =

@@ -1,30 +1,32 @@
 -- `dump::step_kept` meets its contract. Assumes nothing.
 use mathlib.Core.Path.{_∙_}
-use native.Mathlib.Omega.{arith}
 use borrow.Author.Needs.{needs}
-use Rattle.code.specs.Dump.{outcome}
-use Rattle.code.proofs.Steps.{reply-oversize, reply-ended, reply-inside}
+use Rattle.code.specs.Dump.{stepValues}
+use Rattle.dump.proofs.Steps.{place-reply}
 use Rattle.dump.proofs.step_kept.Statement.{statement}
 use Rattle.dump.proofs.step_kept.Tie as tie
 
 pub step-kept-spec : {M : Type 1} → statement M
-unfolding outcome
+unfolding stepValues
 step-kept-spec =
     tie.close
     (tie.spec
-    -- returns
-    (λ c. (reply-oversize _ _ (omega arith), c .before .before .pre))
-    -- returns-2
-    (λ c. (reply-ended _ _ (omega arith) (omega arith), c .before .before .before .pre))
-    -- read-head-requires
+    -- locate-requires
     (λ c κs. search needs)
-    -- enum-known-serial
+    -- enum-known-record
     (λ c. search needs)
     -- step-record-requires
     (λ c κs. search needs)
-    -- enum-known-offset
+    -- enum-told
     (λ c. search needs)
+    -- enum-known-halt
+    (λ c. search needs)
+    -- returns
+    (λ c.
+    let made = c .step-record .ensures in
+    let r = c .before .before .before in
+    (made .0 ∙ place-reply _ _ (rw (r .record .given .1) at (r .before .before .locate .ensures)), made .1))
+    -- returns-2
+    (λ c. let l = c .before .before in (place-reply _ _ (rw (c .enum-told .given .1) at (l .locate .ensures)), l .before .before .pre))
     -- returns-3
-    (λ c. let made = c .step-record .ensures in (made .0 ∙ reply-inside _ _ (omega arith) (omega arith) _ (rw (c .before .before .serial .given .1) at (c .before .before .before .before .read-head .ensures)), made .1))
-    -- returns-4
-    (λ c. (reply-inside _ _ (omega arith) (omega arith) _ (rw (c .before .offset .given .1) at (c .before .before .before .read-head .ensures)), c .before .before .before .before .before .before .before .pre)))
+    (λ c. let l = c .before .before .before in (place-reply _ _ (rw (c .before .halt .given .1) at (l .locate .ensures)), l .before .before .pre)))

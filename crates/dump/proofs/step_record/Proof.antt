@@ -1,11 +1,11 @@
 -- `dump::step_record` meets its contract. Assumes nothing.
 use borrow.Author.Needs.{needs}
-use Rattle.code.specs.Dump.{outcome}
+use Rattle.code.specs.Dump.{cellsOf, outcome, stepValues}
 use Rattle.dump.proofs.step_record.Statement.{statement}
 use Rattle.dump.proofs.step_record.Tie as tie
 
 pub step-record-spec : {M : Type 1} → statement M
-unfolding outcome
+unfolding stepValues outcome cellsOf
 step-record-spec =
     tie.close
     (tie.spec
@@ -14,6 +14,6 @@ step-record-spec =
     -- part-requires
     (λ c κs. search needs)
     -- read-by-requires
-    (λ c κs. let k = c .before .before .before .renew .ensures in rw (k .same-m, k .same-t, k .same-v) at (k .right .right))
+    (λ c κs. c .before .before .renew .ensures .1)
     -- returns
-    (λ c. (cc, c .before .before .before .before .renew .ensures .right)))
+    (λ c. (cc, c .before .before .before .renew .ensures .1)))

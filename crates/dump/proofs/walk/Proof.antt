@@ -3,23 +3,26 @@ use Prim.Native.Nat.{_-_}
 use native.Mathlib.Omega.{arith}
 use borrow.Author.Needs.{needs}
 use lib.ListN.{length}
-use Rattle.dump.specs.Answers.{Right}
+use Rattle.layout.specs.Plan.{Planned}
 use Rattle.dump.proofs.Steps.{record-further}
 use Rattle.dump.proofs.Walking.{Walking, walking-begin, walking-next, walking-end, walking-stop, walking-full, walk-refused}
 use Rattle.dump.proofs.walk.Statement.{statement}
 use Rattle.dump.proofs.walk.Tie as tie
 
 abbrev Inv-loop : tie.InvT-loop
-Inv-loop dump at rows₀ kept₀ next₀ done₀ place₀ rows kept next done place = Right kept × Walking dump at rows₀ rows next done place
+Inv-loop dump at rows₀ h₀ kept₀ next₀ done₀ place₀ rows h kept next done place = Planned kept h × Walking dump at rows₀ rows next done place
 
 abbrev μ-loop : tie.MeasureT-loop
-μ-loop dump at rows₀ kept₀ next₀ done₀ place₀ rows kept next done place = length rows₀ - place
+μ-loop dump at rows₀ h₀ kept₀ next₀ done₀ place₀ rows h kept next done place = length rows₀ - place
 
 -- a row more
 again : tie.Need-loop-again Inv-loop μ-loop
 again c =
-    let s = c .before .before .before .before .before .before .before .before .before in
-    (s .step-kept .ensures .1, walking-next (s .before .before .loop .inv .1) (omega arith) (s .step-kept .ensures .0) (c .before .before .before .before .before .before .step .given .1) (rw (c .before .before .before .before .make-row .ensures) at (c .before .before .put-row .ensures)))
+    let s = c .before .before .before .before .before .before .before .before .before .before in
+    let w = s .before .before .before .loop .inv .1 in
+    let row = c .before .before .before .before .before .make-row .ensures in
+    let told = c .before .before .before .before .before .before .before .step .given .1 in
+    (s .step-kept .ensures .1, walking-next w (omega arith) (s .step-kept .ensures .0) told (rw row at (c .before .before .before .put-row .ensures)))
 
 pub walk-spec : {M : Type 1} → statement M
 walk-spec =
@@ -46,7 +49,9 @@ walk-spec =
     -- put-row-requires
     (λ c κs. search needs)
     -- add-next
-    (λ c. omega (arith, record-further _ _ (c .before .before .before .before .before .before .before .before .before .step-kept .ensures .0) (c .before .before .before .before .before .before .step .given .1) .1))
+    (λ c.
+    let s = c .before .before .before .before .before .before .before .before .before .before in
+    omega (arith, record-further _ _ (s .step-kept .ensures .0) (c .before .before .before .before .before .before .before .step .given .1) .1))
     -- add-done
     (λ c. search needs)
     -- loop-less
@@ -58,17 +63,22 @@ walk-spec =
     -- pause-walk-requires
     (λ c κs. search needs)
     -- same-length
-    (λ c. c .before .before .before .before .before .before .loop .inv .1 .same)
+    (λ c. c .before .before .before .before .before .before .before .loop .inv .1 .same)
     -- returns-2
-    (λ c. walking-end (c .before .before .before .before .before .before .loop .inv .1) (omega arith) (c .before .before .before .before .step-kept .ensures .0) (c .before .enum-told .given .1) (c .pause-walk .ensures))
+    (λ c.
+    let s = c .before .before .before .before in
+    walking-end (s .before .before .before .loop .inv .1) (omega arith) (s .step-kept .ensures .0) (c .before .enum-told .given .1) (c .pause-walk .ensures))
     -- enum-known-step-2
     (λ c. search needs)
     -- halt-walk-requires-2
     (λ c κs. search needs)
     -- same-length-2
-    (λ c. c .before .before .before .before .before .before .before .loop .inv .1 .same)
+    (λ c. c .before .before .before .before .before .before .before .before .loop .inv .1 .same)
     -- returns-3
-    (λ c. walking-stop (c .before .before .before .before .before .before .before .loop .inv .1) (omega arith) (c .before .before .before .before .before .step-kept .ensures .0) (c .before .before .step2 .given .1) (c .halt-walk2 .ensures))
+    (λ c.
+    let s = c .before .before .before .before .before in
+    let w = s .before .before .before .loop .inv .1 in
+    walking-stop w (omega arith) (s .step-kept .ensures .0) (c .before .before .step2 .given .1) (c .halt-walk2 .ensures))
     -- pause-walk-requires-2
     (λ c κs. search needs)
     -- same-length-3

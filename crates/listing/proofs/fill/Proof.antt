@@ -7,15 +7,19 @@ use borrow.Author.Needs.{needs}
 use lib.ListN.{length}
 use Rattle.code.proofs.Tests.{clash}
 use Rattle.storing.proofs.Put.{put-length}
+use Rattle.layout.specs.Plan.{Planned}
+use Rattle.dump.specs.Answers.{dumpMost}
+use Rattle.listing.specs.Listing.{linesMost}
 use Rattle.listing.proofs.Telling.{Filling, filling-begin, filling-next, filling-end}
 use Rattle.listing.proofs.fill.Statement.{statement}
 use Rattle.listing.proofs.fill.Tie as tie
 
 abbrev Inv-loop : tie.InvT-loop
-Inv-loop dump out₀ s₀ end₀ out s end = (s .over ≡ false) × (84 ≤ length out₀) × Filling dump s₀ out₀ out s end
+Inv-loop dump out₀ s₀ h₀ kept₀ end₀ out s h kept end =
+    (s .over ≡ false) × (linesMost ≤ length out₀) × Filling dump s₀ out₀ out s end × Planned kept h
 
 abbrev μ-loop : tie.MeasureT-loop
-μ-loop dump out₀ s₀ end₀ out s end = 65536 - s .next
+μ-loop dump out₀ s₀ h₀ kept₀ end₀ out s h kept end = dumpMost - s .next
 
 pub fill-spec : {M : Type 1} → statement M
 fill-spec =
@@ -23,20 +27,36 @@ fill-spec =
     (tie.spec
     Inv-loop
     μ-loop
+    -- keep-none-requires
+    (λ c κs. search needs)
     -- loop-holds
-    (λ c. let p = c .before .before .pre in (p .1, p .2, filling-begin _ _ _ (p .0)))
+    (λ c. let p = c .before .before .before .pre in (p .1, p .2, filling-begin _ _ _ (p .0), c .keep-none .ensures))
     -- sub-loop
     (λ c. search needs)
+    -- step-kept-requires
+    (λ c κs. c .before .before .loop .inv .3)
     -- tell-requires
-    (λ c κs. let l = c .before .before .loop in (l .inv .2 .standing, l .inv .0, omega arith))
+    (λ c κs.
+    let k = c .before .before in
+    let l = k .before .before .before .loop in
+    ((l .inv .2 .standing, l .inv .0, omega arith), k .step-kept .ensures .0))
     -- same-length
-    (λ c. let t = c .before .before .before .before in put-length (t .tell .ensures .put .put) ∙ t .before .before .before .loop .inv .2 .same)
+    (λ c.
+    let t = c .before .before .before .before in
+    put-length (t .tell .ensures .put .put) ∙ t .before .before .before .before .before .before .loop .inv .2 .same)
     -- returns
-    (λ c. let t = c .before .before .before .before in filling-end (filling-next (t .before .before .before .loop .inv .2) (t .before .before .before .loop .inv .0) (omega arith) (t .tell .ensures)) (λ on. clash (cc)))
+    (λ c.
+    let t = c .before .before .before .before in
+    let v = t .before .before .before .before .before .before .loop .inv in
+    filling-end (filling-next (v .2) (v .0) (omega arith) (t .tell .ensures)) (λ on. clash (cc)))
     -- loop-less
     (λ c. let told = c .before .before .before .before .tell .ensures in omega (arith, told .further (c .if1 .left), told .standing .within))
     -- loop-again
-    (λ c. let t = c .before .before .before .before in (c .if1 .left, t .before .before .before .loop .inv .1, filling-next (t .before .before .before .loop .inv .2) (t .before .before .before .loop .inv .0) (omega arith) (t .tell .ensures)))
+    (λ c.
+    let t = c .before .before .before .before in
+    let k = t .before .before .before in
+    let v = k .before .before .before .loop .inv in
+    (c .if1 .left, v .1, filling-next (v .2) (v .0) (omega arith) (t .tell .ensures), k .step-kept .ensures .1))
     -- same-length-2
     (λ c. search needs)
     -- returns-2

@@ -14,4 +14,9 @@ go-on-spec =
     -- add
     (λ c. search needs)
     -- returns
-    (λ c. record { counted = omega arith; on = same-test _ false (omega arith); further = refl; standing = record { right = c .before .pre .3; few = omega arith; within = omega arith } }))
+    (λ c. record {
+      counted = omega arith;
+      on = same-test _ false (omega arith);
+      further = refl;
+      standing = record { few = omega arith; within = omega arith };
+    }))

@@ -24,4 +24,6 @@ put-halt-lines-spec =
     -- same-length-2
     (λ c. search needs)
     -- returns-2
-    (λ c. rw (c .before .before .before .before .enum-told .given .1) (wider (omega arith) (c .before .before .put-oversize-line .ensures (c .before .before .before .before .before .before .before .args .count)))))
+    (λ c.
+    let count = c .before .before .before .before .before .before .before .args .count in
+    rw (c .before .before .before .before .enum-told .given .1) (wider (omega arith) (c .before .before .put-oversize-line .ensures count))))

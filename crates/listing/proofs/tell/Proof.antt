@@ -10,19 +10,22 @@ pub tell-spec : {M : Type 1} → statement M
 tell-spec =
     tie.close
     (tie.spec
-    -- step-kept-requires
-    (λ c κs. search needs)
     -- enum-known-step
     (λ c. search needs)
     -- add-go-on
-    (λ c. omega (arith, record-further _ _ (c .before .before .before .before .step-kept .ensures .0) (c .before .step .given .1) .1))
+    (λ c.
+    let r = c .before .before in
+    omega (arith, record-further _ _ (r .before .before .before .before .pre .1) (r .step .given .1) .1))
     -- go-on-requires
     (λ c κs.
-    let s = c .before .before .before .before in
-    let f = record-further _ _ (s .step-kept .ensures .0) (c .before .step .given .1) in
-    (s .before .before .before .pre .0, f .0, f .1, s .step-kept .ensures .1))
+    let r = c .before .before in
+    let a = r .before .before .before .before in
+    let f = record-further _ _ (a .pre .1) (r .step .given .1) in
+    (a .pre .0 .0, f .0, f .1))
     -- tell-outcome-requires
-    (λ c κs. (omega arith, record-refusing _ _ (c .before .before .before .before .before .before .step-kept .ensures .0) (c .before .before .before .step .given .1)))
+    (λ c κs.
+    let r = c .before .before .before .before in
+    (omega arith, record-refusing _ _ (r .before .before .before .before .pre .1) (r .step .given .1)))
     -- enum-told
     (λ c. search needs)
     -- put-last-line-requires
@@ -38,12 +41,21 @@ tell-spec =
     -- same-length
     (λ c. search needs)
     -- returns
-    (λ c. let s = c .before .before .before .before .before .before .before .before .before in tells-record (s .before .before .before .pre .1) (s .step-kept .ensures .0) (c .before .before .before .before .before .before .step .given .1) (c .before .before .before .before .go-on .ensures) (c .before .before .tell-outcome .ensures))
+    (λ c.
+    let r = c .before .before .before .before .before .before .before in
+    let a = r .before .before .before .before in
+    tells-record (a .pre .0 .1) (a .pre .1) (r .step .given .1) (c .before .before .before .before .go-on .ensures) (c .before .before .tell-outcome .ensures))
     -- same-length-2
     (λ c. search needs)
     -- returns-2
-    (λ c. let s = c .before .before .before .before .before .before .before .before in tells-end (s .before .before .before .pre .1) (s .step-kept .ensures .0) (c .before .before .before .before .before .enum-told .given .1) (c .close .ensures) (c .before .before .before .put-last-line .ensures))
+    (λ c.
+    let e = c .before .before .before .before .before in
+    let a = e .before .before .before .before in
+    tells-end (a .pre .0 .1) (a .pre .1) (e .enum-told .given .1) (c .close .ensures) (c .before .before .before .put-last-line .ensures))
     -- same-length-3
     (λ c. search needs)
     -- returns-3
-    (λ c. let s = c .before .before .before .before .before .before .before .before .before in tells-stop (s .before .before .before .pre .1) (s .step-kept .ensures .0) (c .before .before .before .before .before .before .step2 .given .1) (c .close2 .ensures) (c .before .before .before .put-halt-lines .ensures)))
+    (λ c.
+    let h = c .before .before .before .before .before .before in
+    let a = h .before .before .before .before in
+    tells-stop (a .pre .0 .1) (a .pre .1) (h .step2 .given .1) (c .close2 .ensures) (c .before .before .before .put-halt-lines .ensures)))

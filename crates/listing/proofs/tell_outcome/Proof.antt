@@ -23,8 +23,12 @@ tell-outcome-spec =
     -- same-length
     (λ c. search needs)
     -- returns
-    (λ c. (same-listing refl refl (omega arith) refl, rw (c .before .before .before .before .before .outcome .given .1) (c .before .before .put-reading-line .ensures)))
+    (λ c.
+    let read = c .before .before .before .before .before .outcome .given .1 in
+    (same-listing refl refl (omega arith), rw read (c .before .before .put-reading-line .ensures)))
     -- same-length-2
     (λ c. search needs)
     -- returns-2
-    (λ c. (same-listing refl refl (omega arith) refl, rw (c .before .before .before .before .before .outcome2 .given .1) (wider (omega arith) (c .before .before .put-refusal-line .ensures)))))
+    (λ c.
+    let refused = c .before .before .before .before .before .outcome2 .given .1 in
+    (same-listing refl refl (omega arith), rw refused (wider (omega arith) (c .before .before .put-refusal-line .ensures)))))

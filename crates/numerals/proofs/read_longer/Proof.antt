@@ -32,9 +32,11 @@ read-longer-spec =
     -- returns
     (λ c. let s = c .before .before .before .before .loop in rw (reading-zero (s .inv) (c .before .before .before .loop-test .taken) (omega arith)))
     -- mul-t13
-    (λ c. let s = c .before .before .before .before .loop in omega (arith, reading-small (s .inv) (getD (now (c .before .before .before .before .before .args .bytes)) (s .i) 0) (omega arith)))
+    (λ c. let s = c .before .before .before .before .loop in
+    omega (arith, reading-small (s .inv) (getD (now (c .before .before .before .before .before .args .bytes)) (s .i) 0) (omega arith)))
     -- add-t14
-    (λ c. let s = c .before .before .before .before .loop in omega (arith, reading-small (s .inv) (getD (now (c .before .before .before .before .before .args .bytes)) (s .i) 0) (omega arith)))
+    (λ c. let s = c .before .before .before .before .loop in
+    omega (arith, reading-small (s .inv) (getD (now (c .before .before .before .before .before .args .bytes)) (s .i) 0) (omega arith)))
     -- add-t15
     (λ c. search needs)
     -- returns-2
@@ -42,11 +44,22 @@ read-longer-spec =
     let s = c .before .before .before .before .loop in
     rw (reading-last (s .inv) (c .before .before .before .loop-test .taken) (omega arith) (c .before .if1 .taken), ← add-assoc, ← s .inv .place))
     -- returns-3
-    (λ c. let s = c .before .before .before .before .loop in rw (reading-tenth (s .inv) (c .before .before .before .loop-test .taken) (c .before .if1 .left) (omega arith)))
+    (λ c. let s = c .before .before .before .before .loop in
+    rw (reading-tenth (s .inv) (c .before .before .before .loop-test .taken) (c .before .if1 .left) (omega arith)))
     -- mul-value
-    (λ c. let s = c .before .before .before .before .loop in omega (arith, reading-small (s .inv) (getD (now (c .before .before .before .before .before .args .bytes)) (s .i) 0 - 128) (omega (arith, c .before .before .shared-slice-known .given (s .i)))))
+    (λ c. let s = c .before .before .before .before .loop in
+    omega (
+      arith,
+      reading-small (s .inv) (getD (now (c .before .before .before .before .before .args .bytes)) (s .i) 0 - 128)
+          (omega (arith, c .before .before .shared-slice-known .given (s .i))),
+    ))
     -- add-value
-    (λ c. let s = c .before .before .before .before .loop in omega (arith, reading-small (s .inv) (getD (now (c .before .before .before .before .before .args .bytes)) (s .i) 0 - 128) (omega (arith, c .before .before .shared-slice-known .given (s .i)))))
+    (λ c. let s = c .before .before .before .before .loop in
+    omega (
+      arith,
+      reading-small (s .inv) (getD (now (c .before .before .before .before .before .args .bytes)) (s .i) 0 - 128)
+          (omega (arith, c .before .before .shared-slice-known .given (s .i))),
+    ))
     -- mul-worth
     (λ c. omega arith)
     -- add-i-2
@@ -56,6 +69,7 @@ read-longer-spec =
     -- loop-again
     (λ c.
     let s = c .before .before .before .before .loop in
-    reading-next (s .inv) (c .before .before .before .loop-test .taken) (c .before .if1 .left) (omega (arith, c .before .before .shared-slice-known .given (s .i))) (omega arith))
+    reading-next (s .inv) (c .before .before .before .loop-test .taken) (c .before .if1 .left)
+    (omega (arith, c .before .before .shared-slice-known .given (s .i))) (omega arith))
     -- returns-4
     (λ c. rw (reading-cut (c .before .loop .inv) (c .loop-test .left))))

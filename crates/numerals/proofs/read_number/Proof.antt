@@ -26,7 +26,11 @@ read-number-spec =
     -- returns-2
     (λ c.
     let a = c .before .before .before .before .args in
-    rw (drop-cons (now (a .bytes)) (a .at) 0 (c .before .before .if1 .left), read-last 8 (getD (now (a .bytes)) (a .at) 0) (drop (suc (a .at)) (now (a .bytes))) (c .if2 .taken)))
+    rw (
+      drop-cons (now (a .bytes)) (a .at) 0 (c .before .before .if1 .left),
+      read-last 8 (getD (now (a .bytes)) (a .at) 0)
+          (drop (suc (a .at)) (now (a .bytes))) (c .if2 .taken),
+    ))
     -- read-longer-requires
     (λ c κs. omega (arith, c .before .shared-slice-known2 .given (c .before .before .before .before .args .at)))
     -- returns-3

@@ -35,7 +35,8 @@ write-number-spec =
     -- loop-less
     (λ c. search needs)
     -- loop-again
-    (λ c. let s = c .before .loop in (omega arith, storing-first (rw (sevens-next 8 (s .rest) (c .loop-test .taken) (s .inv .0)) at (s .inv .1)) (omega arith) (omega arith)))
+    (λ c. let s = c .before .loop in
+    (omega arith, storing-first (rw (sevens-next 8 (s .rest) (c .loop-test .taken) (s .inv .0)) at (s .inv .1)) (omega arith) (omega arith)))
     -- cast-out-2
     (λ c. search needs)
     -- slice-write-out-2
@@ -45,4 +46,5 @@ write-number-spec =
     -- same-length
     (λ c. search needs)
     -- returns
-    (λ c. let s = c .before .loop in storing-end (storing-first (rw (sevens-last 8 (s .rest) (c .loop-test .left)) at (s .inv .1)) (omega arith) (omega arith))))
+    (λ c. let s = c .before .loop in
+    storing-end (storing-first (rw (sevens-last 8 (s .rest) (c .loop-test .left)) at (s .inv .1)) (omega arith) (omega arith))))

@@ -40,8 +40,11 @@ put-decimal-spec =
     -- loop-again
     (λ c.
     let s = c .before .loop in
-    let one : s .place ≡ s .place - 1 + 1 = omega (arith, spelled-longer 19 (s .rest) (c .loop-test .taken) (s .inv .0)) in
-    (omega arith, storing-last (decimal (s .rest / 10)) (48 + s .rest % 10) (rw (spelled-next 19 (s .rest) (c .loop-test .taken) (s .inv .0), one) at (s .inv .1)) (omega arith) (omega arith)))
+    let one : s .place ≡ s .place - 1 + 1 = omega (arith, spelled-longer 19 (s .rest) (c .loop-test .taken) (s .inv .0)) in (
+      omega arith,
+      storing-last (decimal (s .rest / 10)) (48 + s .rest % 10)
+          (rw (spelled-next 19 (s .rest) (c .loop-test .taken) (s .inv .0), one) at (s .inv .1)) (omega arith) (omega arith),
+    ))
     -- cast-out-2
     (λ c. search needs)
     -- add-out-2

@@ -22,4 +22,5 @@ put-last-line-spec =
     -- same-length
     (λ c. search needs)
     -- returns
-    (λ c. simp append-assoc at (within-then (c .before .before .before .before .before .before .put-labelled .ensures) (exactly (c .before .before .put-byte .ensures)))))
+    (λ c. simp append-assoc
+    at (within-then (c .before .before .before .before .before .before .put-labelled .ensures) (exactly (c .before .before .put-byte .ensures)))))

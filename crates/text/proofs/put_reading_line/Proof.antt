@@ -33,8 +33,10 @@ put-reading-line-spec =
     (λ c. search needs)
     -- returns
     (λ c.
-    within-same
-    (within-then
-    (within-then (within-then (within-then (c .before .before .before .before .before .before .before .before .before .before .before .before .before .before .before .before .before .before .before .before .before .put-decimal .ensures) (c .before .before .before .before .before .before .before .before .before .before .before .before .before .before .before .before .put-labelled .ensures)) (c .before .before .before .before .before .before .before .before .before .before .before .put-labelled2 .ensures)) (c .before .before .before .before .before .before .put-labelled3 .ensures))
-    (exactly (c .before .before .put-byte .ensures)))
-    (simp append-assoc)))
+    let left = c .before .before .before .before .before .before in
+    let number = left .before .before .before .before .before in
+    let generation = number .before .before .before .before .before in
+    let serial = generation .before .before .before .before .before in
+    let two = within-then (serial .put-decimal .ensures) (generation .put-labelled .ensures) in
+    let four = within-then (within-then two (number .put-labelled2 .ensures)) (left .put-labelled3 .ensures) in
+    within-same (within-then four (exactly (c .before .before .put-byte .ensures))) (simp append-assoc)))

@@ -26,6 +26,10 @@ put-refusal-line-spec =
     (λ c. search needs)
     -- returns
     (λ c.
-    let p = within-then (within-then (c .before .before .before .before .before .before .before .before .before .before .before .put-decimal .ensures) (c .before .before .before .before .before .before .put-labelled .ensures)) (exactly (c .before .before .put-byte .ensures)) in
-    let refused : c .before .before .before .before .before .before .before .before .before .before .before .before .before .before .args .refusal ≡ 0 → ⊥ = λ e. absurd (omega (arith, c .before .before .before .before .before .before .before .before .before .before .before .before .before .before .pre .0)) in
-    rw (ne-eqb (c .before .before .before .before .before .before .before .before .before .before .before .before .before .before .args .refusal) 0 refused) (simp append-assoc at p)))
+    let p = within-then (within-then (c .before .before .before .before .before .before .before .before .before .before .before .put-decimal .ensures)
+    (c .before .before .before .before .before .before .put-labelled .ensures)) (exactly (c .before .before .put-byte .ensures)) in
+    let refused : c .before .before .before .before .before .before .before .before .before .before .before .before .before .before .args .refusal ≡ 0 →
+    ⊥ = λ e. absurd (omega
+    (arith, c .before .before .before .before .before .before .before .before .before .before .before .before .before .before .pre .0)) in
+    rw (ne-eqb (c .before .before .before .before .before .before .before .before .before .before .before .before .before .before .args .refusal) 0 refused)
+    (simp append-assoc at p)))

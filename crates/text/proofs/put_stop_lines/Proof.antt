@@ -24,4 +24,6 @@ put-stop-lines-spec =
     -- same-length
     (λ c. search needs)
     -- returns
-    (λ c. simp append-assoc at (within-then (within-then (c .before .before .before .before .before .before .before .before .before .before .put-labelled .ensures) (exactly (c .before .before .before .before .before .before .put-byte .ensures))) (c .before .before .put-last-line .ensures))))
+    (λ c. simp append-assoc
+    at (within-then (within-then (c .before .before .before .before .before .before .before .before .before .before .put-labelled .ensures)
+    (exactly (c .before .before .before .before .before .before .put-byte .ensures))) (c .before .before .put-last-line .ensures))))

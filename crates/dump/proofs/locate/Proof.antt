@@ -1,0 +1,30 @@
+-- `dump::locate` meets its contract. Assumes nothing.
+use mathlib.Core.Path.{sym, _∙_}
+use native.Mathlib.Omega.{arith}
+use borrow.Author.Needs.{needs}
+use Rattle.code.proofs.Records.{step-oversize, step-ended, step-inside}
+use Rattle.dump.proofs.locate.Statement.{statement}
+use Rattle.dump.proofs.locate.Tie as tie
+
+pub locate-spec : {M : Type 1} → statement M
+locate-spec =
+    tie.close
+    (tie.spec
+    -- returns
+    (λ c. sym (step-oversize _ _ (omega arith)))
+    -- returns-2
+    (λ c. sym (step-ended _ _ (omega arith) (omega arith)))
+    -- read-head-requires
+    (λ c κs. search needs)
+    -- enum-known-record
+    (λ c. search needs)
+    -- enum-known-offset
+    (λ c. search needs)
+    -- returns-3
+    (λ c.
+    let whole = rw (c .before .record .given .1) at (c .before .before .before .read-head .ensures) in
+    whole ∙ sym (step-inside _ _ (omega arith) (omega arith)))
+    -- returns-4
+    (λ c.
+    let broken = rw (c .before .offset .given .1) at (c .before .before .before .read-head .ensures) in
+    broken ∙ sym (step-inside _ _ (omega arith) (omega arith))))

@@ -1,0 +1,30 @@
+-- `dump::step_at` meets its contract. Assumes nothing.
+use borrow.Author.Needs.{needs}
+use Rattle.code.specs.Dump.{cellsOf, outcome, stepValues}
+use Rattle.dump.proofs.Steps.{place-reply}
+use Rattle.dump.proofs.step_at.Statement.{statement}
+use Rattle.dump.proofs.step_at.Tie as tie
+
+pub step-at-spec : {M : Type 1} → statement M
+unfolding stepValues outcome cellsOf
+step-at-spec =
+    tie.close
+    (tie.spec
+    -- locate-requires
+    (λ c κs. search needs)
+    -- enum-known-record
+    (λ c. search needs)
+    -- part-requires
+    (λ c κs. search needs)
+    -- read-requires
+    (λ c κs. search needs)
+    -- enum-told
+    (λ c. search needs)
+    -- enum-known-halt
+    (λ c. search needs)
+    -- returns
+    (λ c. cc (place-reply _ _ (rw (c .before .before .before .record .given .1) at (c .before .before .before .before .before .locate .ensures))))
+    -- returns-2
+    (λ c. place-reply _ _ (rw (c .enum-told .given .1) at (c .before .before .locate .ensures)))
+    -- returns-3
+    (λ c. place-reply _ _ (rw (c .before .halt .given .1) at (c .before .before .before .locate .ensures))))
