@@ -10,21 +10,23 @@
 #include <inttypes.h>
 #include <stdio.h>
 
-/* What the field is like. These three numbers never change for a field: reading by others gives other numbers. */
-static const uint64_t m = 2;                   /* wits in a group */
-static const uint64_t t = 10;                  /* the field can be written ten times */
-static const uint64_t v = (uint64_t)1 << 56;   /* the counter is below this */
+/* What the field is like. A shape never changes for a field: reading by another gives other numbers. */
+static const struct gorvlime_shape shape = {
+    .m = 2,             /* wits in a group */
+    .t = 10,            /* the field can be written ten times */
+    .v = 1ull << 56,    /* the counter is below this */
+};
 
-/* On a board these are write-once cells, blank at first. 35 bytes is what the layout below says for m, t and v. */
+/* On a board these are write-once cells, blank at first. 35 bytes is what the layout below says for this shape. */
 static uint8_t cells[35];
 
 /* Is the block of cells as large as the field? Ask once, when the board is designed or starts. */
 static int is_right_size(void)
 {
-    struct gorvlime_counts counts = gorvlime_layout(m, t, v, 256);
+    struct gorvlime_counts counts = gorvlime_layout(shape, 256);
     if (counts.refusal != GORVLIME_ACCEPTED)
         return 0;
-    uint64_t wits = m * counts.h[0];
+    uint64_t wits = shape.m * counts.h[0];
     printf("the field takes %" PRIu64 " wits\n", wits);
     return sizeof cells == (wits + 7) / 8;
 }
@@ -32,7 +34,7 @@ static int is_right_size(void)
 /* A refused write has stored nothing, so the last number is still there. */
 static void write_counter(uint64_t number)
 {
-    struct gorvlime_writing written = gorvlime_write(m, t, v, cells, sizeof cells, number);
+    struct gorvlime_writing written = gorvlime_write(shape, cells, sizeof cells, number);
     if (written.refusal != GORVLIME_ACCEPTED) {
         printf("%" PRIu64 " is refused with %" PRIu64 "\n", number, written.refusal);
         return;
@@ -42,7 +44,7 @@ static void write_counter(uint64_t number)
 
 static void read_counter(void)
 {
-    struct gorvlime_reading reading = gorvlime_read(m, t, v, cells, sizeof cells);
+    struct gorvlime_reading reading = gorvlime_read(shape, cells, sizeof cells);
     if (reading.refusal != GORVLIME_ACCEPTED) {
         printf("no reading, refusal %" PRIu64 "\n", reading.refusal);
         return;
@@ -54,7 +56,8 @@ static void read_counter(void)
 static void export_counter(uint64_t serial)
 {
     uint8_t record[85];   /* no record is longer */
-    struct gorvlime_exported exported = gorvlime_export(serial, m, t, v, cells, sizeof cells, record, sizeof record);
+    struct gorvlime_exported exported = gorvlime_export(serial, shape.m, shape.t, shape.v, cells, sizeof cells,
+                                                        record, sizeof record);
     if (exported.refusal != GORVLIME_ACCEPTED) {
         printf("no record, refusal %" PRIu64 "\n", exported.refusal);
         return;
@@ -71,7 +74,7 @@ int main(void)
     write_counter(1000);
     write_counter(1001);
     read_counter();
-    write_counter(v);
+    write_counter(shape.v);
     export_counter(300);
     return 0;
 }

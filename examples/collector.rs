@@ -2,10 +2,13 @@
 //! for each field, `serial generation number left` or `serial refused N`.
 //!
 //!     rt staticlib gorvlime
-//!     rustc -O -L target/staticlib examples/collector.rs -o collector
-//!     ./collector <samples/drives.dump
+//!     tools/rustc examples/collector.rs -o target/collector
+//!     tools/run-c target/collector <samples/drives.dump
 //!
-//! include/gorvlime.h tells what each number of an answer means. The archive is for x86-64.
+//! The archive is for x86-64, where tools/rustc is `rustc -O -L target/staticlib`; on Arm the program is x86-64 code too.
+//! include/gorvlime.h tells what each number of an answer means.
+
+#![no_main]
 
 use std::io::{self, Read};
 
@@ -60,8 +63,11 @@ fn list(dump: &[u8]) {
     }
 }
 
-fn main() {
+/// C's `main`: before its own, Rust asks where the stack ends, which the emulator on Arm does not survive.
+#[no_mangle]
+pub extern "C" fn main() -> i32 {
     let mut dump = Vec::new();
     io::stdin().read_to_end(&mut dump).expect("standard input can be read");
     list(&dump);
+    0
 }

@@ -2,7 +2,7 @@
  * Gorvlime: numbers kept in write-once cells by the position modulation code of Wu and Jiang.
  *
  * A wit is one write-once cell: it leaves the factory as 0, can be turned to 1, and never goes back. A field is a run of
- * wits that holds one number and can still be given a new one t times. Three numbers say what a field is like:
+ * wits that holds one number and can still be given a new one t times. Three numbers say what a field is like, its shape:
  *
  *     m   wits in a group       2 to 4
  *     t   generations           2 to 16       how often the field can be written
@@ -13,12 +13,15 @@
  * gorvlime_step and gorvlime_walk list a dump. examples/board.c shows all of the board's side on one page.
  *
  * For every call:
- * - `refusal` is 0 when the call was accepted. When it is not, all other numbers of the answer are 0 (a walk's are told
- *   below) and nothing was stored in lent memory.
+ * - `refusal` is 0 when the call was accepted. When it is not, all other numbers of the answer are 0 and nothing was stored
+ *   in lent memory. Refusal 7 alone tells more: the offset of the malformed record, and a walk has filled and counts the
+ *   rows of the records before it.
  * - Lend no null pointer, not even with a count of 0, and no output that overlaps what is read. Not a byte more is read or
  *   stored than is lent.
- * - There is no state, no heap and no lock: calls may run at once on different memory, and in an interrupt.
- * - The archive libgorvlime.a is for 64-bit x86 and its System V calling convention.
+ * - There is no state, no heap and no lock: calls may run at once on different memory.
+ * - The archive libgorvlime.a is for 64-bit x86 and its System V calling convention. Of other code it needs `memcpy` at most.
+ * - As that convention allows, a call uses the 128 bytes below the stack pointer and the SSE registers. An interrupt handler
+ *   that interrupts a call, or makes one, has to leave both as it found them.
  */
 #ifndef GORVLIME_H
 #define GORVLIME_H
@@ -46,9 +49,18 @@ enum gorvlime_refusal {
 };
 
 /*
+ * What a field is like. It never changes for a field: reading by another shape gives other numbers. Name the fields,
+ *
+ *     (struct gorvlime_shape){ .m = 2, .t = 10, .v = 1ull << 56 }
+ *
+ * since later versions of the library add some. A field that is left out is 0.
+ */
+struct gorvlime_shape { uint64_t m, t, v; };
+
+/*
  * How large a field is.
  *
- * Takes m, t, v and g, the groups that there is room for, 0 to 256. Answers the counts h_1 > h_2 > .. > h_t in h[0] to
+ * Takes the shape and g, the groups that there is room for, 0 to 256. Answers the counts h_1 > h_2 > .. > h_t in h[0] to
  * h[t - 1], zeros behind: generation i uses h_i groups, and no smaller counts would do. The field takes m * h[0] wits, which
  * is (m * h[0] + 7) / 8 bytes of cells, never more than 64. Only the layout asks about g: the other calls work with g = 256,
  * where every field has room.
@@ -56,12 +68,12 @@ enum gorvlime_refusal {
  */
 struct gorvlime_counts { uint64_t refusal; uint64_t h[16]; };
 
-struct gorvlime_counts gorvlime_layout(uint64_t m, uint64_t t, uint64_t v, uint64_t g);
+struct gorvlime_counts gorvlime_layout(struct gorvlime_shape shape, uint64_t g);
 
 /*
  * The number in a field.
  *
- * Takes the field's m, t, v and its cells, exactly as many bytes as the layout says. Wit w of the field is bit
+ * Takes the field's shape and its cells, exactly as many bytes as the layout says. Wit w of the field is bit
  * 7 - (w mod 8) of byte w / 8, bit 7 being the high one; bits behind the last wit are 0. Answers the generation of the last
  * write (1 to t), the number (0 to v - 1), and how many writes are left. Blank cells read as generation 1, number 0, with t
  * writes left.
@@ -69,20 +81,19 @@ struct gorvlime_counts gorvlime_layout(uint64_t m, uint64_t t, uint64_t v, uint6
  */
 struct gorvlime_reading { uint64_t refusal, generation, number, left; };
 
-struct gorvlime_reading gorvlime_read(uint64_t m, uint64_t t, uint64_t v, const uint8_t *cells, size_t cells_count);
+struct gorvlime_reading gorvlime_read(struct gorvlime_shape shape, const uint8_t *cells, size_t cells_count);
 
 /*
  * A new number in a field.
  *
- * Takes the field's m, t, v, its cells and the number, 0 to v - 1, and turns wits in the cells from 0 to 1, never back.
+ * Takes the field's shape, its cells and the number, 0 to v - 1, and turns wits in the cells from 0 to 1, never back.
  * Answers the generation just written and how many wits were turned. Writing 0 on blank cells turns none and leaves them
  * blank; every other write uses one of the t up.
  * Refusals: 1, 2, 3, 6, 4, 5.
  */
 struct gorvlime_writing { uint64_t refusal, generation, turned; };
 
-struct gorvlime_writing gorvlime_write(uint64_t m, uint64_t t, uint64_t v, uint8_t *cells, size_t cells_count,
-                                       uint64_t number);
+struct gorvlime_writing gorvlime_write(struct gorvlime_shape shape, uint8_t *cells, size_t cells_count, uint64_t number);
 
 /*
  * A record of a field, for a dump.

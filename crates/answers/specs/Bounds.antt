@@ -5,9 +5,21 @@ use lib.ListN.{length, getD}
 use Rattle.answers.specs.declared.input.Window.{Window}
 use Rattle.answers.specs.declared.protocol.Call.{Call}
 
+-- the most bytes of a call: an operation, an export's five numbers, a count and 65,537 bytes
+abbrev pub callMost : ℕ
+callMost = 65586
+
+-- the most bytes that an export asks for
+abbrev pub outputMost : ℕ
+outputMost = 1024
+
+-- the most bytes of a piece of text
+abbrev pub pieceMost : ℕ
+pieceMost = 64
+
 -- a place of an output that has room for any piece of text
 abbrev pub Fits : ℕ → List ℕ → Type 0
-Fits at out = (at ≤ length out) × (64 ≤ length out)
+Fits at out = (at ≤ length out) × (pieceMost ≤ length out)
 
 -- what is not yet answered stands within the buffer
 abbrev pub Held : Window → List ℕ → Type 0
@@ -17,4 +29,4 @@ Held w buffer = (w .at ≤ w .end) × (w .end ≤ length buffer)
 pub record Within (c : Call) (bytes : List ℕ) : Type 0 where
   pub forward : c .start ≤ c .end
   pub inside : c .end ≤ length bytes
-  pub limited : getD (c .numbers) 4 0 ≤ 1024
+  pub limited : getD (c .numbers) 4 0 ≤ outputMost

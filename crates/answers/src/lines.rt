@@ -1,17 +1,18 @@
 // The lines that answer a call.
 use crate::output;
+use crate::protocol;
 use crate::protocol::Broken;
+use code::Shape;
 use dump::Exported;
 use field::Reading;
 use field::Writing;
 ghost use Prim.Native.Nat.{_+_, _*_, _≤_};
 ghost use lib.ListN.{length};
-ghost use Rattle.answers.specs.Bounds.{Fits};
+ghost use Rattle.dump.specs.Answers.{rowLength};
+ghost use Rattle.answers.specs.Bounds.{outputMost, Fits};
 
-// The numbers of a record's row, and those of them that a record has whose cells are refused.
-const ROW: usize = 10;
-
-const REFUSED: usize = 7;
+// The numbers of a row before the reply to reading the record's cells.
+const NUMBERS: usize = 6;
 
 fn put_counts(out: &mut [u8], at: usize, h: &[u64], count: usize) -> usize
     requires { ⌜ Fits at (now out) × (count ≤ length (now h)) ⌝ }
@@ -20,30 +21,39 @@ fn put_counts(out: &mut [u8], at: usize, h: &[u64], count: usize) -> usize
     output::put_line(out, at, b"layout 0", &h[..count])
 }
 
-pub fn put_layout(out: &mut [u8], at: usize, m: u64, t: u64, v: u64, g: u64) -> usize
+pub fn put_layout(out: &mut [u8], at: usize, s: Shape, g: u64) -> usize
     requires { ⌜ Fits at (now out) ⌝ }
     ensures { λ r. ⌜ Fits r (now (out .exit)) ⌝ }
 {
-    let l = gorvlime::lay_out(m, t, v, g);
+    let l = gorvlime::lay_out(s, g);
     if l.refusal != 0 {
         return output::put_line(out, at, b"layout", &[l.refusal]);
     }
     let h = l.h;
-    put_counts(out, at, &h, t as usize)
+    put_counts(out, at, &h, s.t as usize)
 }
 
-pub fn put_read(out: &mut [u8], at: usize, m: u64, t: u64, v: u64, cells: &[u8]) -> usize
+// What a reading answers, and the end of its line.
+fn put_reply(out: &mut [u8], at: usize, answer: Reading) -> usize
     requires { ⌜ Fits at (now out) ⌝ }
     ensures { λ r. ⌜ Fits r (now (out .exit)) ⌝ }
 {
-    match gorvlime::read(m, t, v, cells) {
+    match answer {
         Reading::Read {
             generation,
             number,
             left,
-        } => output::put_line(out, at, b"read", &[0, generation, number, left]),
-        Reading::Refused(refusal) => output::put_line(out, at, b"read", &[refusal]),
+        } => output::put_line(out, at, b"", &[0, generation, number, left]),
+        Reading::Refused(refusal) => output::put_line(out, at, b"", &[refusal]),
     }
+}
+
+pub fn put_read(out: &mut [u8], at: usize, s: Shape, cells: &[u8]) -> usize
+    requires { ⌜ Fits at (now out) ⌝ }
+    ensures { λ r. ⌜ Fits r (now (out .exit)) ⌝ }
+{
+    let place = output::put_word(out, at, b"read");
+    put_reply(out, place, gorvlime::read(s, cells))
 }
 
 fn put_writing(out: &mut [u8], at: usize, answer: Writing) -> usize
@@ -58,19 +68,11 @@ fn put_writing(out: &mut [u8], at: usize, answer: Writing) -> usize
     }
 }
 
-pub fn put_write(
-    out: &mut [u8],
-    at: usize,
-    m: u64,
-    t: u64,
-    v: u64,
-    number: u64,
-    cells: &mut [u8],
-) -> usize
+pub fn put_write(out: &mut [u8], at: usize, s: Shape, number: u64, cells: &mut [u8]) -> usize
     requires { ⌜ Fits at (now out) ⌝ }
     ensures { λ r. ⌜ Fits r (now (out .exit)) ⌝ }
 {
-    let place = put_writing(out, at, gorvlime::write(m, t, v, cells, number));
+    let place = put_writing(out, at, gorvlime::write(s, cells, number));
     output::put_hex(out, place, cells)
 }
 
@@ -114,23 +116,23 @@ pub fn put_export(
     room: usize,
     cells: &[u8],
 ) -> usize
-    requires { ⌜ Fits at (now out) × (room ≤ 1024) ⌝ }
+    requires { ⌜ Fits at (now out) × (room ≤ outputMost) ⌝ }
     ensures { λ r. ⌜ Fits r (now (out .exit)) ⌝ }
 {
-    let mut lent = [0xa5u8; 1024];
+    let mut lent = [0xa5u8; protocol::OUTPUT_MOST];
     put_export_into(out, at, serial, m, t, v, cells, &mut lent, room)
 }
 
 // A line for each record, and one for how the walk ends.
 pub fn put_walk(out: &mut [u8], at: usize, dump: &[u8], rows: &mut [u64]) -> usize
-    requires { ⌜ Fits at (now out) × (10 ≤ length (now rows)) ⌝ }
+    requires { ⌜ Fits at (now out) × (rowLength ≤ length (now rows)) ⌝ }
     ensures { λ r. ⌜ Fits r (now (out .exit)) ⌝ }
 {
     let mut place = at;
     let mut next: usize = 0;
     loop {
         let w = gorvlime::walk(dump, next, rows);
-        place = put_records(out, place, rows, w.rows as usize);
+        place = put_records(out, place, dump, rows, w.rows as usize);
         if w.refusal != 0 {
             return put_stop(out, place, w.refusal, w.offset);
         }
@@ -141,28 +143,32 @@ pub fn put_walk(out: &mut [u8], at: usize, dump: &[u8], rows: &mut [u64]) -> usi
     }
 }
 
-fn put_records(out: &mut [u8], at: usize, rows: &[u64], count: usize) -> usize
-    requires { ⌜ Fits at (now out) × (10 * count ≤ length (now rows)) ⌝ }
+fn put_records(out: &mut [u8], at: usize, dump: &[u8], rows: &[u64], count: usize) -> usize
+    requires { ⌜ Fits at (now out) × (rowLength * count ≤ length (now rows)) ⌝ }
     ensures { λ r. ⌜ Fits r (now (out .exit)) ⌝ }
 {
     let mut place = at;
     let mut i = 0;
     while i < count {
-        place = put_record(out, place, rows, ROW * i);
+        place = put_record(out, place, dump, rows, dump::ROW * i);
         i += 1;
     }
     place
 }
 
-// The line of the row that starts at a place.
-fn put_record(out: &mut [u8], at: usize, rows: &[u64], from: usize) -> usize
-    requires { ⌜ Fits at (now out) × (from + 10 ≤ length (now rows)) ⌝ }
+// The line of the row that starts at a place, with the reply to reading the record's part of the dump, which is what the row goes on with.
+fn put_record(out: &mut [u8], at: usize, dump: &[u8], rows: &[u64], from: usize) -> usize
+    requires { ⌜ Fits at (now out) × (from + rowLength ≤ length (now rows)) ⌝ }
     ensures { λ r. ⌜ Fits r (now (out .exit)) ⌝ }
 {
-    if rows[from + 6] == 0 {
-        return output::put_line(out, at, b"record", &rows[from..from + ROW]);
-    }
-    output::put_line(out, at, b"record", &rows[from..from + REFUSED])
+    let place = output::put_numbers(out, at, b"record", &rows[from..from + NUMBERS]);
+    let s = Shape {
+        m: rows[from + 1],
+        t: rows[from + 2],
+        v: rows[from + 3],
+    };
+    let cells = gorvlime::part(dump, rows[from + 4] as usize, rows[from + 5] as usize);
+    put_reply(out, place, gorvlime::read(s, cells))
 }
 
 fn put_stop(out: &mut [u8], at: usize, refusal: u64, offset: u64) -> usize

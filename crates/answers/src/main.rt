@@ -1,5 +1,5 @@
-// Answers the stream of calls on standard input, a line for each on standard output. A call is a byte that says which it is and its numbers, each as eight bytes from the
-// low one up; cells or a dump follow as one number more, which counts them, and the bytes themselves:
+// Answers the stream of calls on standard input, a line for each on standard output. A call is a byte that says which it is and its numbers, each as eight
+// bytes from the low one up; cells or a dump follow as one number more, which counts them, and the bytes themselves:
 //
 //     1 layout   m t v g                        layout 0 h_1 .. h_t | layout N
 //     2 read     m t v, cells                   read 0 generation number left | read N
@@ -8,7 +8,8 @@
 //     5 walk     dump                           record serial m t v start length 0 generation number left, or
 //                                               record serial m t v start length N, for each; end | stop 7 offset | stop 8
 //
-// CELLS and OUT are the lent bytes afterwards in hex, left out where there are none. A stream that can't be followed ends with `cut off`, `no such call` or `too long`.
+// CELLS and OUT are the lent bytes afterwards in hex, left out where there are none. A stream that can't be followed ends with `cut off`, `no such call` or
+// `too long`.
 mod input;
 mod lines;
 mod output;
@@ -19,7 +20,8 @@ use protocol::Call;
 use protocol::Kind;
 ghost use Prim.Native.Nat.{_≤_};
 ghost use lib.ListN.{length};
-ghost use Rattle.answers.specs.Bounds.{Fits, Held, Within};
+ghost use Rattle.dump.specs.Answers.{rowLength};
+ghost use Rattle.answers.specs.Bounds.{callMost, Fits, Held, Within};
 
 fn main() {
     let mut buffer = [0u8; 81920];
@@ -37,7 +39,7 @@ struct State {
 
 // A proved loop has to end, and nothing says that a stream does: the turns are counted down, from a number that no run uses up.
 fn answer_all(buffer: &mut [u8], rows: &mut [u64], out: &mut [u8])
-    requires { ⌜ (65586 ≤ length (now buffer)) × (10 ≤ length (now rows)) × Fits 0 (now out) ⌝ }
+    requires { ⌜ (callMost ≤ length (now buffer)) × (rowLength ≤ length (now rows)) × Fits 0 (now out) ⌝ }
 {
     let mut turns = u64::MAX;
     let window = Window {
@@ -58,7 +60,7 @@ fn answer_all(buffer: &mut [u8], rows: &mut [u64], out: &mut [u8])
 }
 
 fn answer_next(buffer: &mut [u8], s: State, rows: &mut [u64], out: &mut [u8]) -> State
-    requires { ⌜ Held (s .window) (now buffer) × (65586 ≤ length (now buffer)) × (10 ≤ length (now rows)) × Fits (s .place) (now out) ⌝ }
+    requires { ⌜ Held (s .window) (now buffer) × (callMost ≤ length (now buffer)) × (rowLength ≤ length (now rows)) × Fits (s .place) (now out) ⌝ }
     ensures { λ r. ⌜ Held (r .window) (now (buffer .exit)) × Fits (r .place) (now (out .exit)) ⌝ }
 {
     let window = input::refill(buffer, s.window);
@@ -86,17 +88,18 @@ fn answer_next(buffer: &mut [u8], s: State, rows: &mut [u64], out: &mut [u8]) ->
 }
 
 fn answer(call: Call, bytes: &mut [u8], rows: &mut [u64], out: &mut [u8], at: usize) -> usize
-    requires { ⌜ Within call (now bytes) × (10 ≤ length (now rows)) × Fits at (now out) ⌝ }
+    requires { ⌜ Within call (now bytes) × (rowLength ≤ length (now rows)) × Fits at (now out) ⌝ }
     ensures { λ r. ⌜ Fits r (now (out .exit)) ⌝ }
 {
     let kind = call.kind;
+    let s = protocol::shape_of(call);
     let n = call.numbers;
     let start = call.start;
     let end = call.end;
     match kind {
-        Kind::Layout => lines::put_layout(out, at, n[0], n[1], n[2], n[3]),
-        Kind::Read => lines::put_read(out, at, n[0], n[1], n[2], &bytes[start..end]),
-        Kind::Write => lines::put_write(out, at, n[0], n[1], n[2], n[3], &mut bytes[start..end]),
+        Kind::Layout => lines::put_layout(out, at, s, n[3]),
+        Kind::Read => lines::put_read(out, at, s, &bytes[start..end]),
+        Kind::Write => lines::put_write(out, at, s, n[3], &mut bytes[start..end]),
         Kind::Export => {
             let room = n[4] as usize;
             lines::put_export(out, at, n[0], n[1], n[2], n[3], room, &bytes[start..end])

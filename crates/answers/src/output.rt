@@ -2,7 +2,7 @@
 ghost use mathlib.Core.Path.{_≡_};
 ghost use Prim.Native.Nat.{_+_, _≤_, _<_};
 ghost use lib.ListN.{length};
-ghost use Rattle.answers.specs.Bounds.{Fits};
+ghost use Rattle.answers.specs.Bounds.{pieceMost, Fits};
 
 // Writes the text before a place, and answers where the next begins. A write that fails is the end of the output, and no one is left to be told.
 pub fn write_out(out: &[u8], at: usize) -> usize
@@ -15,7 +15,7 @@ pub fn write_out(out: &[u8], at: usize) -> usize
 
 // A place with so many bytes behind it.
 fn make_room(out: &[u8], at: usize, need: usize) -> usize
-    requires { ⌜ Fits at (now out) × (need ≤ 64) ⌝ }
+    requires { ⌜ Fits at (now out) × (need ≤ pieceMost) ⌝ }
     ensures { λ r. ⌜ r + need ≤ length (now (out .entry)) ⌝ }
 {
     if need <= out.len() - at {
@@ -25,26 +25,29 @@ fn make_room(out: &[u8], at: usize, need: usize) -> usize
 }
 
 pub fn put_word(out: &mut [u8], at: usize, word: &[u8]) -> usize
-    requires { ⌜ Fits at (now out) × (length (now word) ≤ 64) ⌝ }
+    requires { ⌜ Fits at (now out) × (length (now word) ≤ pieceMost) ⌝ }
     ensures { λ r. ⌜ Fits r (now (out .exit)) ⌝ }
 {
     let place = make_room(out, at, word.len());
     storing::put_bytes(out, place, word)
 }
 
+// The most bytes of a space and a number.
+const NUMBER_MOST: usize = 21;
+
 // A space and a number.
 fn put_number(out: &mut [u8], at: usize, x: u64) -> usize
     requires { ⌜ Fits at (now out) ⌝ }
     ensures { λ r. ⌜ Fits r (now (out .exit)) ⌝ }
 {
-    let place = make_room(out, at, 21);
+    let place = make_room(out, at, NUMBER_MOST);
     let digits = storing::put_byte(out, place, b' ');
     text::put_decimal(out, digits, x)
 }
 
 // A word and numbers, each behind a space.
 pub fn put_numbers(out: &mut [u8], at: usize, word: &[u8], numbers: &[u64]) -> usize
-    requires { ⌜ Fits at (now out) × (length (now word) ≤ 64) ⌝ }
+    requires { ⌜ Fits at (now out) × (length (now word) ≤ pieceMost) ⌝ }
     ensures { λ r. ⌜ Fits r (now (out .exit)) ⌝ }
 {
     let mut place = put_word(out, at, word);
@@ -57,7 +60,7 @@ pub fn put_numbers(out: &mut [u8], at: usize, word: &[u8], numbers: &[u64]) -> u
 }
 
 pub fn put_line(out: &mut [u8], at: usize, word: &[u8], numbers: &[u64]) -> usize
-    requires { ⌜ Fits at (now out) × (length (now word) ≤ 64) ⌝ }
+    requires { ⌜ Fits at (now out) × (length (now word) ≤ pieceMost) ⌝ }
     ensures { λ r. ⌜ Fits r (now (out .exit)) ⌝ }
 {
     let end = put_numbers(out, at, word, numbers);

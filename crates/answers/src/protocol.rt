@@ -1,13 +1,15 @@
 // Calls as they stand in the stream. Each number is tested as soon as it is read, so that a call that is both too long and cut off later is too long.
+use code::Shape;
 ghost use mathlib.Core.Path.{_≡_};
 ghost use Prim.Native.Nat.{_+_, _≤_, _<_};
 ghost use lib.ListN.{length, getD};
+ghost use Rattle.code.specs.Shape.{shaped};
 ghost use Rattle.answers.specs.Bounds.{Within};
 
 // A dump one byte too long to be walked still fits in a call.
-const BYTES_MOST: u64 = 65537;
+const BYTES_MOST: u64 = dump::DUMP_MOST as u64 + 1;
 
-const OUTPUT_MOST: u64 = 1024;
+pub const OUTPUT_MOST: usize = 1024;
 
 // Why a stream can't be followed.
 pub enum Broken {
@@ -31,6 +33,18 @@ pub struct Call {
     pub numbers: [u64; 5],
     pub start: usize,
     pub end: usize,
+}
+
+// The shape that stands first in the numbers of a call.
+pub fn shape_of(call: Call) -> Shape
+    ensures { λ r. ⌜ r ≡ shaped (getD (call .numbers) 0 0) (getD (call .numbers) 1 0) (getD (call .numbers) 2 0) ⌝ }
+{
+    let n = call.numbers;
+    Shape {
+        m: n[0],
+        t: n[1],
+        v: n[2],
+    }
 }
 
 fn break_off(why: Broken) -> Call
@@ -77,7 +91,7 @@ fn read_numbers(s: &[u8], kind: Kind, count: usize) -> Call
         numbers[i] = number_at(s, 1 + 8 * i);
         i += 1;
     }
-    if OUTPUT_MOST < numbers[4] {
+    if (OUTPUT_MOST as u64) < numbers[4] {
         return break_off(Broken::TooLong);
     }
     Call {

@@ -1,21 +1,25 @@
 -- The fields of a step's reply, case by case.
 use mathlib.Core.Path.{_≡_, refl}
-use mathlib.Core.List.{List, [], _∷_}
-use mathlib.Core.Bool.{Bool, true, false, cond}
-use Prim.Native.Nat.{ℕ, _+_, _-_, _^_, _≤_, _<_}
-use lib.Dec.{leb, ltb}
+use mathlib.Core.List.{List, [], _∷_, _++_}
+use mathlib.Core.Bool.{Bool, true, false, cond, _&&_}
+use Prim.Native.Nat.{ℕ, _+_, _^_, _≤_, _<_}
+use lib.Dec.{ltb}
 use native.Mathlib.Omega.{arith}
-use lib.ListN.{length, getD, replicate}
+use lib.ListN.{length, replicate}
 use borrow.Author.Tests.{lt-ltb}
-use Rattle.code.specs.Calls.{filled}
-use Rattle.code.specs.Dump.{Numbers, cut, numbers, readNumbers, Step, taken, ended, stopped, recordAt, step, outcome, stepReply}
+use Rattle.code.specs.declared.Record.{Record}
+use Rattle.code.specs.Calls.{filled, refusal}
+use Rattle.code.specs.Dump.{Numbers, cut, numbers, readNumbers, Step, taken, ended, stopped, broken, stepRefusal, found, stepOn, step, recordNumbers}
+use Rattle.code.specs.Dump.{stepValues, stepReply}
 use Rattle.code.proofs.Walk.{step-forward}
-use Rattle.gorvlime.specs.Fields.{foundFields}
+use Rattle.dump.specs.Answers.{dumpMost}
+use Rattle.gorvlime.specs.Fields.{cellsEnd, foundFields}
 
-pub found-record : (serial m t v start count : ℕ) (reading fields : List ℕ) → fields ≡ filled 4 reading →
-    0 ∷ 0 ∷ 1 ∷ serial ∷ m ∷ t ∷ v ∷ start ∷ count ∷ (start + count) ∷ fields ≡ foundFields (0 ∷ serial ∷ m ∷ t ∷ v ∷ start ∷ count ∷ reading)
-unfolding foundFields
-found-record serial m t v start count reading fields q = rw (lt-ltb 2 (length (0 ∷ serial ∷ m ∷ t ∷ v ∷ start ∷ count ∷ reading)) (omega arith), q)
+pub found-record : (r : Record) (reading fields : List ℕ) → fields ≡ filled 4 reading →
+    0 ∷ 0 ∷ 1 ∷ r .serial ∷ r .shape .m ∷ r .shape .t ∷ r .shape .v ∷ r .start ∷ r .count ∷ (r .start + r .count) ∷ fields
+    ≡ foundFields (0 ∷ (recordNumbers r ++ reading))
+unfolding foundFields recordNumbers cellsEnd
+found-record r reading fields q = rw (lt-ltb 2 (length (0 ∷ (recordNumbers r ++ reading))) (omega arith), q)
 
 pub found-none : (k : ℕ) → k ∷ 0 ∷ replicate 12 0 ≡ foundFields (k ∷ [])
 unfolding foundFields filled
@@ -27,31 +31,28 @@ found-offset k offset = refl
 
 -- a stop carries one number at most
 Short : Step → Type 0
-Short (taken serial m t v start count) = Unit {0}
+Short (taken r) = Unit {0}
 Short ended = Unit {0}
 Short (stopped k carried) = length carried ≤ 1
 
-either : (b : Bool) (x y : Step) → Short x → Short y → Short (cond b x y)
-either true x y p q = p
-either false x y p q = q
-
-record-short : (bytes : List ℕ) (at : ℕ) (ns : Numbers) → Short (recordAt bytes at ns)
-unfolding recordAt Short
-record-short bytes at cut = omega arith
-record-short bytes at (numbers xs start) = either (leb (getD xs 4 0) (length bytes - start)) _ _ tt (omega arith)
-
 step-short : (bytes : List ℕ) (at : ℕ) → Short (step bytes at)
-unfolding step Short
-step-short bytes at =
-    either (ltb 65536 (length bytes)) _ _ (omega arith) (either (ltb at (length bytes)) _ _ (record-short bytes at (readNumbers 5 bytes at)) tt)
+unfolding step stepRefusal refusal stepOn found Short
+step-short bytes at = go (ltb dumpMost (length bytes)) (ltb at (length bytes)) (broken bytes (readNumbers 5 bytes at)) (readNumbers 5 bytes at)
+  where
+    go : (a b c : Bool) (ns : Numbers) → Short (stepOn (refusal ((8 ∷ [], a) ∷ (7 ∷ at ∷ [], b && c) ∷ [])) (cond b (found ns) ended))
+    go true b c ns = omega arith
+    go false false c ns = tt
+    go false true true ns = omega arith
+    go false true false cut = tt
+    go false true false (numbers xs start) = tt
 
 -- a record's cells end within the dump
-pub step-fits : (bytes : List ℕ) (at : ℕ) → getD (stepReply bytes at) 5 0 + getD (stepReply bytes at) 6 0 < 2 ^ 64
-unfolding stepReply outcome Short
+pub step-fits : (bytes : List ℕ) (at : ℕ) → cellsEnd (stepReply bytes at) < 2 ^ 64
+unfolding stepReply stepValues recordNumbers cellsEnd Short
 step-fits bytes at = go (step bytes at) refl (step-short bytes at)
   where
-    go : (s : Step) → step bytes at ≡ s → Short s → getD (outcome bytes s) 5 0 + getD (outcome bytes s) 6 0 < 2 ^ 64
-    go (taken serial m t v start count) q h = omega (arith, step-forward bytes at serial m t v start count q)
+    go : (s : Step) → step bytes at ≡ s → Short s → cellsEnd (stepValues bytes s) < 2 ^ 64
+    go (taken r) q h = omega (arith, step-forward bytes at r q)
     go ended q h = omega arith
     go (stopped k []) q h = omega arith
     go (stopped k (x ∷ [])) q h = omega arith

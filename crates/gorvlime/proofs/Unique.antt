@@ -1,9 +1,11 @@
--- The promises of the calls for C leave no choice: two answers that one of them allows are equal, and so is what they leave in lent memory. Those of `gorvlime_layout` and
--- `gorvlime_walk` are `unique` of layout/proofs/Unique and `unique-walk` of dump/proofs/Unique; those of the calls by their Rattle names stand there and in field/proofs/Unique, but for `part`.
+-- The promises of the calls for C leave no choice: two answers that one of them allows are equal, and so is what they leave in lent memory. Those of
+-- `gorvlime_layout` and `gorvlime_walk` are `unique` of layout/proofs/Unique and `unique-walk` of dump/proofs/Unique; those of the calls by their Rattle names
+-- stand there and in field/proofs/Unique, but for `part`.
 use Prim.Native.Nat.{ℕ}
 use mathlib.Core.Path.{_≡_, sym, ap, _∙_}
 use mathlib.Core.List.{List}
 use lib.ListN.{getD, take, drop}
+use Rattle.code.specs.declared.Shape.{Shape}
 use Rattle.code.specs.Calls.{filled, readReply, writeReply, writeLeaves}
 use Rattle.code.specs.Dump.{exportReply, exportLeaves, stepReply}
 use Rattle.gorvlime.specs.Fields.{readingFields, writingFields, exportFields, stepFields, foundFields}
@@ -41,14 +43,14 @@ stepWith xs =
       left = getD xs 13 0;
     }
 
-pub unique-read : (m t v : ℕ) (cells : List ℕ) (r r′ : ReadAnswer) →
-    readingFields r ≡ filled 4 (readReply m t v cells) → readingFields r′ ≡ filled 4 (readReply m t v cells) → r ≡ r′
-unique-read m t v cells r r′ p p′ = ap readingWith (p ∙ sym p′)
+pub unique-read : (s : Shape) (cells : List ℕ) (r r′ : ReadAnswer) →
+    readingFields r ≡ filled 4 (readReply s cells) → readingFields r′ ≡ filled 4 (readReply s cells) → r ≡ r′
+unique-read s cells r r′ p p′ = ap readingWith (p ∙ sym p′)
 
-pub unique-write : (m t v x : ℕ) (cells after after′ : List ℕ) (r r′ : WriteAnswer) →
-    writingFields r ≡ filled 3 (writeReply m t v x cells) → after ≡ writeLeaves m t v x cells →
-    writingFields r′ ≡ filled 3 (writeReply m t v x cells) → after′ ≡ writeLeaves m t v x cells → (r ≡ r′) × (after ≡ after′)
-unique-write m t v x cells after after′ r r′ p l p′ l′ = (ap writingWith (p ∙ sym p′), l ∙ sym l′)
+pub unique-write : (s : Shape) (x : ℕ) (cells after after′ : List ℕ) (r r′ : WriteAnswer) →
+    writingFields r ≡ filled 3 (writeReply s x cells) → after ≡ writeLeaves s x cells →
+    writingFields r′ ≡ filled 3 (writeReply s x cells) → after′ ≡ writeLeaves s x cells → (r ≡ r′) × (after ≡ after′)
+unique-write s x cells after after′ r r′ p l p′ l′ = (ap writingWith (p ∙ sym p′), l ∙ sym l′)
 
 pub unique-export : (serial m t v : ℕ) (cells out after after′ : List ℕ) (r r′ : ExportAnswer) →
     exportFields r ≡ filled 2 (exportReply serial m t v cells out) → after ≡ exportLeaves serial m t v cells out →

@@ -21,9 +21,15 @@ exportFields r = r .refusal ∷ r .length ∷ []
 
 abbrev pub stepFields : StepAnswer → List ℕ
 stepFields r =
-    r .refusal ∷ r .offset ∷ r .records ∷ r .serial ∷ r .m ∷ r .t ∷ r .v ∷ r .start ∷ r .length ∷ r .next ∷ r .refused ∷ r .generation ∷ r .number ∷ r .left ∷ []
+    r .refusal ∷ r .offset ∷ r .records ∷ r .serial ∷ r .m ∷ r .t ∷ r .v ∷ r .start ∷ r .length ∷ r .next
+    ∷ r .refused ∷ r .generation ∷ r .number ∷ r .left ∷ []
 
--- the fourteen fields of a step's reply: a record's are 0, 0, 1, its serial, m, t, v, where its cells start and how many they are, where they end, and its reading in four
+-- where the cells of a step's record end, by its reply
+unfoldable pub cellsEnd : List ℕ → ℕ
+cellsEnd reply = getD reply 5 0 + getD reply 6 0
+
+-- the fourteen fields of a step's reply: a record's are 0, 0, 1, its serial, m, t, v, where its cells start and how many they are, where they end, and its
+-- reading in four
 unfoldable pub foundFields : List ℕ → List ℕ
 foundFields reply =
-    cond (ltb 2 (length reply)) (0 ∷ 0 ∷ 1 ∷ (take 6 (drop 1 reply) ++ ((getD reply 5 0 + getD reply 6 0) ∷ filled 4 (drop 7 reply)))) (filled 14 reply)
+    cond (ltb 2 (length reply)) (0 ∷ 0 ∷ 1 ∷ (take 6 (drop 1 reply) ++ (cellsEnd reply ∷ filled 4 (drop 7 reply)))) (filled 14 reply)

@@ -1,13 +1,14 @@
 // The public calls for C: the answers of this crate's other calls in structs of numbers, 0 in the fields that an answer lacks.
+use code::Shape;
 ghost use mathlib.Core.Path.{_≡_};
 ghost use mathlib.Core.List.{_∷_};
-ghost use Rattle.code.specs.Calls.{filled, layoutReply, readReply, writeReply, writeLeaves};
+ghost use Rattle.code.specs.Calls.{filled, layoutFields, layoutReply, readReply, writeReply, writeLeaves};
 ghost use Rattle.field.specs.Answers.{readingOf, writingOf};
-ghost use Prim.Native.Nat.{_+_, _^_, _<_};
-ghost use lib.ListN.{getD, replicate};
+ghost use Prim.Native.Nat.{_^_, _<_};
+ghost use lib.ListN.{replicate};
 ghost use Rattle.code.specs.Dump.{exportReply, exportLeaves, stepReply, walkReply, walkLeaves};
 ghost use Rattle.dump.specs.Answers.{exportedOf, haltOf, stepOf, walkedOf};
-ghost use Rattle.gorvlime.specs.Fields.{readingFields, writingFields, exportFields, stepFields, foundFields};
+ghost use Rattle.gorvlime.specs.Fields.{readingFields, writingFields, exportFields, stepFields, cellsEnd, foundFields};
 
 #[repr(C)]
 pub struct ReadAnswer {
@@ -25,10 +26,10 @@ pub struct WriteAnswer {
 }
 
 #[no_mangle]
-pub extern "C" fn gorvlime_layout(m: u64, t: u64, v: u64, g: u64) -> layout::Layout
-    ensures { λ r. ⌜ (r .refusal ∷ r .h) ≡ filled 17 (layoutReply m t v g) ⌝ }
+pub extern "C" fn gorvlime_layout(s: Shape, g: u64) -> layout::Layout
+    ensures { λ r. ⌜ (r .refusal ∷ r .h) ≡ filled layoutFields (layoutReply s g) ⌝ }
 {
-    crate::lay_out(m, t, v, g)
+    crate::lay_out(s, g)
 }
 
 fn flat_reading(a: field::Reading) -> ReadAnswer
@@ -55,10 +56,10 @@ fn flat_reading(a: field::Reading) -> ReadAnswer
 }
 
 #[no_mangle]
-pub extern "C" fn gorvlime_read(m: u64, t: u64, v: u64, cells: &[u8]) -> ReadAnswer
-    ensures { λ r. ⌜ readingFields r ≡ filled 4 (readReply m t v (now (cells .entry))) ⌝ }
+pub extern "C" fn gorvlime_read(s: Shape, cells: &[u8]) -> ReadAnswer
+    ensures { λ r. ⌜ readingFields r ≡ filled 4 (readReply s (now (cells .entry))) ⌝ }
 {
-    flat_reading(crate::read(m, t, v, cells))
+    flat_reading(crate::read(s, cells))
 }
 
 fn flat_writing(a: field::Writing) -> WriteAnswer
@@ -79,16 +80,11 @@ fn flat_writing(a: field::Writing) -> WriteAnswer
 }
 
 #[no_mangle]
-pub extern "C" fn gorvlime_write(
-    m: u64,
-    t: u64,
-    v: u64,
-    cells: &mut [u8],
-    number: u64,
-) -> WriteAnswer
-    ensures { λ r. ⌜ (writingFields r ≡ filled 3 (writeReply m t v number (now (cells .entry)))) × (now (cells .exit) ≡ writeLeaves m t v number (now (cells .entry))) ⌝ }
+pub extern "C" fn gorvlime_write(s: Shape, cells: &mut [u8], number: u64) -> WriteAnswer
+    ensures { λ r. ⌜ writingFields r ≡ filled 3 (writeReply s number (now (cells .entry))) ⌝ }
+    ensures { λ r. ⌜ now (cells .exit) ≡ writeLeaves s number (now (cells .entry)) ⌝ }
 {
-    flat_writing(crate::write(m, t, v, cells, number))
+    flat_writing(crate::write(s, cells, number))
 }
 
 #[repr(C)]
@@ -121,7 +117,8 @@ pub extern "C" fn gorvlime_export(
     cells: &[u8],
     out: &mut [u8],
 ) -> ExportAnswer
-    ensures { λ r. ⌜ (exportFields r ≡ filled 2 (exportReply serial m t v (now (cells .entry)) (now (out .entry)))) × (now (out .exit) ≡ exportLeaves serial m t v (now (cells .entry)) (now (out .entry))) ⌝ }
+    ensures { λ r. ⌜ exportFields r ≡ filled 2 (exportReply serial m t v (now (cells .entry)) (now (out .entry))) ⌝ }
+    ensures { λ r. ⌜ now (out .exit) ≡ exportLeaves serial m t v (now (cells .entry)) (now (out .entry)) ⌝ }
 {
     flat_export(crate::export(serial, m, t, v, cells, out))
 }
@@ -176,31 +173,24 @@ fn flat_halt(halt: dump::Halt) -> StepAnswer
 }
 
 fn flat_step(a: dump::Step) -> StepAnswer
-    requires { ⌜ getD (stepOf a) 5 0 + getD (stepOf a) 6 0 < 2 ^ 64 ⌝ }
+    requires { ⌜ cellsEnd (stepOf a) < 2 ^ 64 ⌝ }
     ensures { λ r. ⌜ stepFields r ≡ foundFields (stepOf a) ⌝ }
 {
     match a {
-        dump::Step::Record {
-            serial,
-            m,
-            t,
-            v,
-            start,
-            count,
-            outcome,
-        } => {
+        dump::Step::Record { record, outcome } => {
             let o = flat_reading(outcome);
+            let s = record.shape;
             StepAnswer {
                 refusal: 0,
                 offset: 0,
                 records: 1,
-                serial,
-                m,
-                t,
-                v,
-                start: start as u64,
-                length: count as u64,
-                next: (start + count) as u64,
+                serial: record.serial,
+                m: s.m,
+                t: s.t,
+                v: s.v,
+                start: record.start as u64,
+                length: record.count as u64,
+                next: (record.start + record.count) as u64,
                 refused: o.refusal,
                 generation: o.generation,
                 number: o.number,
@@ -221,7 +211,8 @@ pub extern "C" fn gorvlime_step(bytes: &[u8], at: usize) -> StepAnswer
 
 #[no_mangle]
 pub extern "C" fn gorvlime_walk(bytes: &[u8], at: usize, rows: &mut [u64]) -> dump::Walked
-    ensures { λ r. ⌜ (walkedOf r ≡ walkReply (now (bytes .entry)) at (now (rows .entry))) × (now (rows .exit) ≡ walkLeaves (now (bytes .entry)) at (now (rows .entry))) ⌝ }
+    ensures { λ r. ⌜ walkedOf r ≡ walkReply (now (bytes .entry)) at (now (rows .entry)) ⌝ }
+    ensures { λ r. ⌜ now (rows .exit) ≡ walkLeaves (now (bytes .entry)) at (now (rows .entry)) ⌝ }
 {
     crate::walk(bytes, at, rows)
 }

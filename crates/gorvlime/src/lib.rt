@@ -1,6 +1,7 @@
 // The public calls: each answers for all inputs, and its promise fixes the answer and all that it is lent.
 pub mod c;
 
+use code::Shape;
 use dump::Exported;
 use dump::Step;
 use dump::Walked;
@@ -10,31 +11,31 @@ use layout::Layout;
 ghost use mathlib.Core.Path.{_≡_};
 ghost use mathlib.Core.List.{_∷_};
 ghost use lib.ListN.{take, drop};
-ghost use Rattle.code.specs.Calls.{filled, layoutReply, readReply, writeReply, writeLeaves};
+ghost use Rattle.code.specs.Calls.{filled, layoutFields, layoutReply, readReply, writeReply, writeLeaves};
 ghost use Rattle.code.specs.Dump.{exportReply, exportLeaves, stepReply, walkReply, walkLeaves};
 ghost use Rattle.field.specs.Answers.{readingOf, writingOf};
 ghost use Rattle.dump.specs.Answers.{exportedOf, stepOf, walkedOf};
 
 // The counts of a field in g groups.
-pub fn lay_out(m: u64, t: u64, v: u64, g: u64) -> Layout
-    ensures { λ r. ⌜ (r .refusal ∷ r .h) ≡ filled 17 (layoutReply m t v g) ⌝ }
+pub fn lay_out(s: Shape, g: u64) -> Layout
+    ensures { λ r. ⌜ (r .refusal ∷ r .h) ≡ filled layoutFields (layoutReply s g) ⌝ }
 {
-    layout::lay_out(m, t, v, g)
+    layout::lay_out(s, g)
 }
 
 // The number in a field.
-pub fn read(m: u64, t: u64, v: u64, cells: &[u8]) -> Reading
-    ensures { λ r. ⌜ readingOf r ≡ readReply m t v (now (cells .entry)) ⌝ }
+pub fn read(s: Shape, cells: &[u8]) -> Reading
+    ensures { λ r. ⌜ readingOf r ≡ readReply s (now (cells .entry)) ⌝ }
 {
-    field::read(m, t, v, cells)
+    field::read(s, cells)
 }
 
 // A new number in a field.
-pub fn write(m: u64, t: u64, v: u64, cells: &mut [u8], number: u64) -> Writing
-    ensures { λ r. ⌜ writingOf r ≡ writeReply m t v number (now (cells .entry)) ⌝ }
-    ensures { λ r. ⌜ now (cells .exit) ≡ writeLeaves m t v number (now (cells .entry)) ⌝ }
+pub fn write(s: Shape, cells: &mut [u8], number: u64) -> Writing
+    ensures { λ r. ⌜ writingOf r ≡ writeReply s number (now (cells .entry)) ⌝ }
+    ensures { λ r. ⌜ now (cells .exit) ≡ writeLeaves s number (now (cells .entry)) ⌝ }
 {
-    field::write(m, t, v, cells, number)
+    field::write(s, cells, number)
 }
 
 // The record of a field, at the front of the output.

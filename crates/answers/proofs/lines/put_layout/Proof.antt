@@ -1,7 +1,7 @@
 -- `answers::lines::put_layout` meets its contract. Assumes nothing.
 use native.Mathlib.Omega.{arith}
 use borrow.Author.Needs.{needs}
-use Rattle.code.proofs.LayoutReply.{reply-enough}
+use Rattle.code.proofs.LayoutCall.{reply-enough}
 use Rattle.answers.proofs.lines.put_layout.Statement.{statement}
 use Rattle.answers.proofs.lines.put_layout.Tie as tie
 
@@ -17,6 +17,8 @@ put-layout-spec =
     (λ c. search needs)
     (λ c. search needs)
     -- put-counts-requires
-    (λ c κs. let l = c .before .before .before .before .before .lay-out in (search needs, reply-enough _ _ _ _ (l .result .refusal) (l .result .h) (l .ensures) (omega arith)))
+    (λ c κs.
+    let l = c .before .before .before .before .before .lay-out in
+    (search needs, reply-enough _ _ (l .result .refusal) (l .result .h) (l .ensures) (omega arith)))
     (λ c. search needs)
     (λ c. search needs))

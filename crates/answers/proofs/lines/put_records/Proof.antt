@@ -8,10 +8,10 @@ use Rattle.answers.proofs.lines.put_records.Statement.{statement}
 use Rattle.answers.proofs.lines.put_records.Tie as tie
 
 abbrev Inv-loop : tie.InvT-loop
-Inv-loop out₀ at rows count place₀ i₀ out place i = (length out ≡ length out₀) × Fits place out × (i ≤ count)
+Inv-loop out₀ at dump rows count place₀ i₀ out place i = (length out ≡ length out₀) × Fits place out × (i ≤ count)
 
 abbrev μ-loop : tie.MeasureT-loop
-μ-loop out₀ at rows count place₀ i₀ out place i = count - i
+μ-loop out₀ at dump rows count place₀ i₀ out place i = count - i
 
 pub put-records-spec : {M : Type 1} → statement M
 put-records-spec =

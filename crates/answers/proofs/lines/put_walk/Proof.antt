@@ -10,7 +10,8 @@ use Rattle.answers.proofs.lines.put_walk.Statement.{statement}
 use Rattle.answers.proofs.lines.put_walk.Tie as tie
 
 abbrev Inv-loop : tie.InvT-loop
-Inv-loop out₀ at dump rows₀ place₀ next₀ t8 out rows place next = (length out ≡ length out₀) × (length rows ≡ length rows₀) × Fits place out × (next ≤ length dump)
+Inv-loop out₀ at dump rows₀ place₀ next₀ t8 out rows place next =
+    (length out ≡ length out₀) × (length rows ≡ length rows₀) × Fits place out × (next ≤ length dump)
 
 abbrev μ-loop : tie.MeasureT-loop
 μ-loop out₀ at dump rows₀ place₀ next₀ t8 out rows place next = length dump - next
@@ -35,6 +36,11 @@ put-walk-spec =
     (λ c. search needs)
     (λ c. search needs)
     -- loop-less
-    (λ c. let w = c .before .before .before .before .before .before .before .before .before .before .before .walk in omega (arith, walked-onward _ _ _ (w .result) (w .ensures .0) (omega arith) (omega arith) (omega arith) (omega arith)))
+    (λ c.
+    let w = c .before .before .before .before .before .before .before .before .before .before .before .walk in
+    omega (arith, walked-onward _ _ _ (w .result) (w .ensures .0) (omega arith) (omega arith) (omega arith) (omega arith)))
     -- loop-again
-    (λ c. let w = c .before .before .before .before .before .before .before .before .before .before .before .walk in (search needs, search needs, search needs, walked-onward _ _ _ (w .result) (w .ensures .0) (omega arith) (omega arith) (omega arith) (omega arith) .1)))
+    (λ c.
+    let w = c .before .before .before .before .before .before .before .before .before .before .before .walk in
+    let onward = walked-onward _ _ _ (w .result) (w .ensures .0) (omega arith) (omega arith) (omega arith) (omega arith) in
+    (search needs, search needs, search needs, onward .1)))

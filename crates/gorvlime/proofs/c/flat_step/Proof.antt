@@ -2,24 +2,27 @@
 use mathlib.Core.Path.{_∙_}
 use native.Mathlib.Omega.{arith}
 use borrow.Author.Needs.{needs}
+use Rattle.code.specs.Dump.{recordNumbers}
+use Rattle.gorvlime.specs.Fields.{cellsEnd}
 use Rattle.gorvlime.proofs.Laws.{found-record, found-none}
 use Rattle.gorvlime.proofs.c.flat_step.Statement.{statement}
 use Rattle.gorvlime.proofs.c.flat_step.Tie as tie
 
 pub flat-step-spec : {M : Type 1} → statement M
+unfolding cellsEnd recordNumbers
 flat-step-spec =
     tie.close
     (tie.spec
     (λ c. search needs)
     (λ c κs. search needs)
     -- add-t14
-    (λ c. omega (arith, rw (c .before .before .a .given .1) at (c .before .before .before .before .pre)))
+    (λ c. omega (arith, rw (c .before .before .before .before .a .given .1) at (c .before .before .before .before .before .before .pre)))
     (λ c. search needs)
     (λ c κs. search needs)
     (λ c. search needs)
     (λ c κs. search needs)
     -- returns
-    (λ c. rw (c .before .before .a .given .1) (found-record _ _ _ _ _ _ _ _ (c .flat-reading .ensures)))
+    (λ c. rw (c .before .before .before .before .a .given .1) (found-record _ _ _ (c .before .before .flat-reading .ensures)))
     -- returns-2
     (λ c. c .no-record .ensures ∙ rw (c .before .enum-told .given .1) (found-none 0))
     -- returns-3
