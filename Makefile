@@ -13,10 +13,11 @@ test:
 	@cd second && cargo test --release --offline --quiet && cargo build --release --offline --quiet
 	@rt check fieldlist gorvlime answers
 	@tests/run-listings
+	@tests/run-descriptors
 	@tests/run-values
 	@rt staticlib gorvlime
 	@tests/run-calls
-	@tools/frames target/staticlib/libgorvlime.a --depth rank_from=37 --limit 4096 --limit gorvlime_layout=1024
+	@tools/frames target/staticlib/libgorvlime.a --limit 1500 --limit gorvlime_layout=496
 	@tests/crosscheck $(CALLS)
 	@rt ci
 

@@ -66,20 +66,26 @@ static void put_hex(const uint8_t *bytes, size_t count)
     }
 }
 
+static struct gorvlime_shape get_shape(void)
+{
+    uint64_t m = get_number(), t = get_number(), v = get_number();
+    return (struct gorvlime_shape){.m = m, .t = t, .v = v};
+}
+
 static void answer_layout(void)
 {
-    uint64_t m = get_number(), t = get_number(), v = get_number(), g = get_number();
-    struct gorvlime_counts c = CALL(layout)(m, t, v, g);
+    struct gorvlime_shape shape = get_shape();
+    struct gorvlime_counts c = CALL(layout)(shape, get_number());
     put_numbers("layout", &c.refusal, 1);
-    put_numbers("", c.h, c.refusal == 0 ? t : 0);
+    put_numbers("", c.h, c.refusal == 0 ? shape.t : 0);
     putchar('\n');
 }
 
 static void answer_read(struct lent *lent)
 {
-    uint64_t m = get_number(), t = get_number(), v = get_number();
+    struct gorvlime_shape shape = get_shape();
     get_bytes(lent);
-    struct gorvlime_reading r = CALL(read)(m, t, v, lent->bytes, lent->count);
+    struct gorvlime_reading r = CALL(read)(shape, lent->bytes, lent->count);
     uint64_t numbers[] = {r.refusal, r.generation, r.number, r.left};
     put_numbers("read", numbers, r.refusal == 0 ? 4 : 1);
     putchar('\n');
@@ -87,9 +93,10 @@ static void answer_read(struct lent *lent)
 
 static void answer_write(struct lent *lent)
 {
-    uint64_t m = get_number(), t = get_number(), v = get_number(), number = get_number();
+    struct gorvlime_shape shape = get_shape();
+    uint64_t number = get_number();
     get_bytes(lent);
-    struct gorvlime_writing w = CALL(write)(m, t, v, lent->bytes, lent->count, number);
+    struct gorvlime_writing w = CALL(write)(shape, lent->bytes, lent->count, number);
     uint64_t numbers[] = {w.refusal, w.generation, w.turned};
     put_numbers("write", numbers, w.refusal == 0 ? 3 : 1);
     put_hex(lent->bytes, lent->count);
@@ -99,11 +106,12 @@ static void answer_write(struct lent *lent)
 static void answer_export(struct lent *lent)
 {
     uint8_t out[MOST_OUTPUT];
-    uint64_t serial = get_number(), m = get_number(), t = get_number(), v = get_number();
+    uint64_t serial = get_number();
+    struct gorvlime_shape f = get_shape();
     size_t out_count = get_count(MOST_OUTPUT);
     get_bytes(lent);
     memset(out, OUTPUT_FILL, sizeof out);
-    struct gorvlime_exported e = CALL(export)(serial, m, t, v, lent->bytes, lent->count, out, out_count);
+    struct gorvlime_exported e = CALL(export)(serial, f.m, f.t, f.v, lent->bytes, lent->count, out, out_count);
     uint64_t numbers[] = {e.refusal, e.length};
     put_numbers("export", numbers, e.refusal == 0 ? 2 : 1);
     put_hex(out, out_count);

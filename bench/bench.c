@@ -1,5 +1,6 @@
 /*
- * What the archive costs beside plain C: fields of m 2, t 10, v 2^56, which are 278 wits.
+ * What the archive costs beside plain C: all calls on the drives' field, m 2, t 10, v 2^56, and reads and writes on the
+ * largest fields and on a small one.
  *
  *     bench list               the cases, a line for each: calls in one run of it, and its name
  *     bench same               compares the answers of both in every case
@@ -18,15 +19,15 @@
 #define RANGE ((uint64_t)1 << 56)
 
 enum {
-    M = 2, T = 10, CELLS = 35, CHAINS = 8,
+    MOST_GENERATIONS = 16, MOST_CELLS = 64, MOST_RECORD = 85, CHAINS = 8,
     /* 23 of the records have a serial of 3 bytes, and the others one of 2, which fills the dump to its last byte. */
     DUMP = 65536, RECORDS = 1337, LONG_SERIALS = 23, ROWS = (RECORDS + 1) * GORVLIME_ROW,
 };
 
 struct calls {
-    struct gorvlime_counts (*layout)(uint64_t, uint64_t, uint64_t, uint64_t);
-    struct gorvlime_reading (*read)(uint64_t, uint64_t, uint64_t, const uint8_t *, size_t);
-    struct gorvlime_writing (*write)(uint64_t, uint64_t, uint64_t, uint8_t *, size_t, uint64_t);
+    struct gorvlime_counts (*layout)(struct gorvlime_shape, uint64_t);
+    struct gorvlime_reading (*read)(struct gorvlime_shape, const uint8_t *, size_t);
+    struct gorvlime_writing (*write)(struct gorvlime_shape, uint8_t *, size_t, uint64_t);
     struct gorvlime_exported (*export)(uint64_t, uint64_t, uint64_t, uint64_t, const uint8_t *, size_t, uint8_t *, size_t);
     struct gorvlime_walked (*walk)(const uint8_t *, size_t, size_t, uint64_t *, size_t);
 };
@@ -34,81 +35,92 @@ struct calls {
 static const struct calls plain = {plain_layout, plain_read, plain_write, plain_export, plain_walk};
 static const struct calls archive = {gorvlime_layout, gorvlime_read, gorvlime_write, gorvlime_export, gorvlime_walk};
 
-static uint64_t numbers[CHAINS][T];
-static uint8_t written[CHAINS][T][CELLS];   /* after each write of a chain */
-static uint8_t dump[DUMP];
+/* A field, and chains of writes from blank cells to its last generation. */
+struct sample {
+    struct gorvlime_shape shape;
+    size_t cells;
+    uint64_t numbers[CHAINS][MOST_GENERATIONS];
+    uint8_t written[CHAINS][MOST_GENERATIONS][MOST_CELLS];   /* after each write of a chain */
+};
+
+static struct sample drives = {.shape = {.m = 2, .t = 10, .v = RANGE}, .cells = 35};
+static struct sample widest_2 = {.shape = {.m = 2, .t = 16, .v = RANGE}, .cells = 49};
+static struct sample widest_3 = {.shape = {.m = 3, .t = 16, .v = RANGE}, .cells = 57};
+static struct sample widest_4 = {.shape = {.m = 4, .t = 16, .v = RANGE}, .cells = 64};
+static struct sample small = {.shape = {.m = 2, .t = 3, .v = 4}, .cells = 1};
+
+static uint8_t dump[DUMP];   /* of the drives' fields */
 static uint64_t rows[ROWS];
-static uint64_t answers;                    /* all answers of a run, folded into one number */
+static uint64_t answers;     /* all answers of a run, folded into one number */
 
 static void fold(uint64_t answer)
 {
     answers = answers * 31 + answer;
 }
 
-static void run_layout(const struct calls *c)
+static void run_layout(const struct calls *c, const struct sample *s, unsigned generation)
+{
+    (void)generation;
+    for (unsigned i = 0; i < CHAINS; i++)
+        fold(c->layout(s->shape, 256 - i).h[0]);
+}
+
+static void run_reads(const struct calls *c, const struct sample *s, unsigned generation)
 {
     for (unsigned i = 0; i < CHAINS; i++)
-        fold(c->layout(M, T, RANGE, 256 - i).h[0]);
+        fold(c->read(s->shape, s->written[i][generation - 1], s->cells).number);
 }
 
-static void run_reads(const struct calls *c, unsigned generation)
-{
-    for (unsigned i = 0; i < CHAINS; i++)
-        fold(c->read(M, T, RANGE, written[i][generation - 1], CELLS).number);
-}
-
-static void run_read_1(const struct calls *c)
-{
-    run_reads(c, 1);
-}
-
-static void run_read_5(const struct calls *c)
-{
-    run_reads(c, 5);
-}
-
-static void run_read_10(const struct calls *c)
-{
-    run_reads(c, 10);
-}
-
-static void run_writes(const struct calls *c)
+static void run_writes(const struct calls *c, const struct sample *s, unsigned generations)
 {
     for (unsigned i = 0; i < CHAINS; i++) {
-        uint8_t cells[CELLS] = {0};
-        for (unsigned j = 0; j < T; j++)
-            fold(c->write(M, T, RANGE, cells, CELLS, numbers[i][j]).turned);
+        uint8_t cells[MOST_CELLS] = {0};
+        for (unsigned j = 0; j < generations; j++)
+            fold(c->write(s->shape, cells, s->cells, s->numbers[i][j]).turned);
         fold(cells[i]);
     }
 }
 
-static void run_export(const struct calls *c)
+static void run_export(const struct calls *c, const struct sample *s, unsigned generation)
 {
-    uint8_t out[85];
+    uint8_t out[MOST_RECORD];
+    struct gorvlime_shape f = s->shape;
     for (unsigned i = 0; i < CHAINS; i++) {
-        fold(c->export(300 + i, M, T, RANGE, written[i][T / 2], CELLS, out, sizeof out).length);
+        fold(c->export(300 + i, f.m, f.t, f.v, s->written[i][generation - 1], s->cells, out, sizeof out).length);
         fold(out[20]);
     }
 }
 
-static void run_walk(const struct calls *c)
+static void run_walk(const struct calls *c, const struct sample *s, unsigned generation)
 {
+    (void)s;
+    (void)generation;
     fold(c->walk(dump, DUMP, 0, rows, ROWS).rows);
     fold(rows[8]);
 }
 
 static const struct {
     unsigned calls, times;   /* calls in a run; runs that are timed together */
-    void (*run)(const struct calls *);
+    void (*run)(const struct calls *, const struct sample *, unsigned);
+    struct sample *sample;
+    unsigned generation;     /* which one, or how many */
     const char *name;
 } cases[] = {
-    {CHAINS, 20, run_layout, "layout"},
-    {CHAINS, 10, run_read_1, "read at generation 1"},
-    {CHAINS, 10, run_read_5, "read at generation 5"},
-    {CHAINS, 10, run_read_10, "read at generation 10"},
-    {CHAINS, 1, run_writes, "ten writes"},
-    {CHAINS, 20, run_export, "export"},
-    {1, 1, run_walk, "walk of 1,337 records"},
+    {CHAINS, 20, run_layout, &drives, 1, "layout"},
+    {CHAINS, 10, run_reads, &drives, 1, "read at generation 1"},
+    {CHAINS, 10, run_reads, &drives, 5, "read at generation 5"},
+    {CHAINS, 10, run_reads, &drives, 10, "read at generation 10"},
+    {CHAINS, 1, run_writes, &drives, 10, "ten writes"},
+    {CHAINS, 20, run_export, &drives, 6, "export"},
+    {1, 1, run_walk, &drives, 1, "walk of 1,337 records"},
+    {CHAINS, 10, run_reads, &widest_2, 8, "m 2, t 16, v 2^56: read at generation 8"},
+    {CHAINS, 1, run_writes, &widest_2, 16, "m 2, t 16, v 2^56: 16 writes"},
+    {CHAINS, 10, run_reads, &widest_3, 8, "m 3, t 16, v 2^56: read at generation 8"},
+    {CHAINS, 1, run_writes, &widest_3, 16, "m 3, t 16, v 2^56: 16 writes"},
+    {CHAINS, 10, run_reads, &widest_4, 8, "m 4, t 16, v 2^56: read at generation 8"},
+    {CHAINS, 1, run_writes, &widest_4, 16, "m 4, t 16, v 2^56: 16 writes"},
+    {CHAINS, 100, run_reads, &small, 2, "m 2, t 3, v 4: read at generation 2"},
+    {CHAINS, 100, run_writes, &small, 3, "m 2, t 3, v 4: 3 writes"},
 };
 
 enum { CASES = sizeof cases / sizeof cases[0] };
@@ -121,15 +133,16 @@ static uint64_t draw(void)
     return state >> 8;
 }
 
-static void write_chains(void)
+/* Numbers from 1 on, so that every write uses a generation up. */
+static void write_chains(struct sample *s)
 {
     for (unsigned i = 0; i < CHAINS; i++) {
-        uint8_t cells[CELLS] = {0};
-        for (unsigned j = 0; j < T; j++) {
-            numbers[i][j] = draw();
-            if (plain_write(M, T, RANGE, cells, CELLS, numbers[i][j]).refusal != 0)
+        uint8_t cells[MOST_CELLS] = {0};
+        for (unsigned j = 0; j < s->shape.t; j++) {
+            s->numbers[i][j] = 1 + draw() % (s->shape.v - 1);
+            if (plain_write(s->shape, cells, s->cells, s->numbers[i][j]).refusal != 0)
                 abort();
-            memcpy(written[i][j], cells, CELLS);
+            memcpy(s->written[i][j], cells, s->cells);
         }
     }
 }
@@ -141,22 +154,33 @@ static size_t put_record(uint8_t *out, uint64_t serial, const uint8_t *parameter
         out[at++] = serial | 128;
     out[at++] = serial;
     memcpy(out + at, parameters, length);
-    memcpy(out + at + length, cells, CELLS);
-    return at + length + CELLS;
+    memcpy(out + at + length, cells, drives.cells);
+    return at + length + drives.cells;
 }
 
 /* The records differ in serial and cells only; what stands between comes from an exported one with a serial of one byte. */
 static void make_dump(void)
 {
-    uint8_t record[85];
-    size_t between = plain_export(0, M, T, RANGE, written[0][0], CELLS, record, sizeof record).length - 1 - CELLS;
-    size_t length = 0;
+    uint8_t record[MOST_RECORD];
+    const struct sample *s = &drives;
+    struct gorvlime_shape f = s->shape;
+    size_t whole = plain_export(0, f.m, f.t, f.v, s->written[0][0], s->cells, record, sizeof record).length;
+    size_t between = whole - 1 - s->cells, length = 0;
     for (unsigned i = 0; i < RECORDS; i++) {
         uint64_t serial = i < LONG_SERIALS ? 20000 + i : 128 + i;
-        length += put_record(dump + length, serial, record + 1, between, written[i % CHAINS][i % T]);
+        length += put_record(dump + length, serial, record + 1, between, s->written[i % CHAINS][i % f.t]);
     }
     if (length != DUMP)
         abort();
+}
+
+/* What a case runs over. It is made once. */
+static void prepare(unsigned i)
+{
+    if (cases[i].sample->numbers[0][0] == 0)
+        write_chains(cases[i].sample);
+    if (cases[i].run == run_walk)
+        make_dump();
 }
 
 static void list_cases(void)
@@ -165,11 +189,16 @@ static void list_cases(void)
         printf("%u %s\n", cases[i].calls, cases[i].name);
 }
 
+static void run_case(unsigned i, const struct calls *c)
+{
+    cases[i].run(c, cases[i].sample, cases[i].generation);
+}
+
 static uint64_t answers_of(unsigned i, const struct calls *c)
 {
     answers = 0;
     memset(rows, 0, sizeof rows);
-    cases[i].run(c);
+    run_case(i, c);
     for (unsigned j = 0; j < ROWS; j++)
         fold(rows[j]);
     return answers;
@@ -178,6 +207,7 @@ static uint64_t answers_of(unsigned i, const struct calls *c)
 static int compare(void)
 {
     for (unsigned i = 0; i < CASES; i++) {
+        prepare(i);
         if (answers_of(i, &plain) != answers_of(i, &archive)) {
             printf("%s: the answers differ\n", cases[i].name);
             return 1;
@@ -190,10 +220,11 @@ static int count_one(unsigned i, char who)
 {
     if (i >= CASES)
         return 2;
+    prepare(i);
     if (who == 'p')
-        cases[i].run(&plain);
+        run_case(i, &plain);
     if (who == 'a')
-        cases[i].run(&archive);
+        run_case(i, &archive);
     return 0;
 }
 
@@ -202,7 +233,7 @@ static double nanoseconds(unsigned i, const struct calls *c)
     struct timespec from, to;
     clock_gettime(CLOCK_MONOTONIC, &from);
     for (unsigned j = 0; j < cases[i].times; j++)
-        cases[i].run(c);
+        run_case(i, c);
     clock_gettime(CLOCK_MONOTONIC, &to);
     return ((to.tv_sec - from.tv_sec) * 1e9 + (to.tv_nsec - from.tv_nsec)) / cases[i].times;
 }
@@ -210,6 +241,8 @@ static double nanoseconds(unsigned i, const struct calls *c)
 /* Who goes first changes from round to round. */
 static void time_all(unsigned rounds)
 {
+    for (unsigned i = 0; i < CASES; i++)
+        prepare(i);
     for (unsigned round = 0; round < rounds; round++) {
         for (unsigned i = 0; i < CASES; i++) {
             double ours, theirs;
@@ -228,8 +261,6 @@ static void time_all(unsigned rounds)
 int main(int count, char **words)
 {
     const char *command = count > 1 ? words[1] : "";
-    write_chains();
-    make_dump();
     if (strcmp(command, "list") == 0 && count == 2) {
         list_cases();
         return 0;

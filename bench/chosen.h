@@ -1,4 +1,4 @@
-/* CALL(read) is gorvlime_read of the archive where GORVLIME is defined, and else plain_read. */
+/* CALL(read) is gorvlime_read of the archive where GORVLIME is defined, and else plain_read. SHAPE(m, t, v) is a shape. */
 #ifndef CHOSEN_H
 #define CHOSEN_H
 
@@ -9,5 +9,7 @@
 #else
 #define CALL(name) plain_##name
 #endif
+
+#define SHAPE(M, T, V) ((struct gorvlime_shape){.m = (M), .t = (T), .v = (V)})
 
 #endif

@@ -1,22 +1,15 @@
 /*
- * The field calls of gorvlime.h as one would write them in C for a board: no heap, no table, one array of groups.
+ * The field calls of gorvlime.h as one would write them by hand in C for a board: no heap, no table, cells in 64-bit words.
  *
- * No number needs more than 64 bits, although a list of counts is easily written down that does: the search for a count goes
- * up by one group at a time and stops at the first with v patterns or more. With v at most 2^56 its patterns are then fewer
- * than 0.88 * 2^64 (the most is at m 4, next count 121), and a binomial times its upper number less than 0.02 * 2^64. So a
- * pattern's number, and each step of working out a binomial, fit too. More than 15 places are never written.
+ * No number needs more than 64 bits, although a list of counts is easily written down that does. The search for a count goes
+ * up by one group at a time and stops at the first with v patterns or more. Before its last step the sum is at most 2^56 and
+ * the count below 2^8; after it the sum is below 0.88 * 2^64 (the most is at m 4, next count 121). So a pattern's number fits
+ * too. Working out a binomial never goes above it times k (k - 1) or times n, which are below 2^58.
  */
 #include "plain_field.h"
-
-enum { MOST_WRITTEN = 16 };
+#include "plain_words.h"
 
 static const uint64_t MOST_RANGE = (uint64_t)1 << 56;
-
-/* The field's groups, leftmost first, and how many are zero and all ones. */
-struct groups {
-    unsigned zeros, full;
-    uint8_t value[MOST_GROUPS];
-};
 
 /* What the places of a generation are written with: b values each, at least `first` places. */
 struct deal {
@@ -38,25 +31,23 @@ static unsigned last_count(unsigned base, uint64_t v)
 /*
  * The least h above `next` with v patterns that write `first` to h - next of the h places.
  * The sum starts from the pattern that writes nothing. One place more, of which one more may be written: the new place is
- * blank and one of the others more may be written, or it holds one of b values.
+ * blank or holds one of b values beside any pattern so far, or it is blank and one of the others more is written.
  */
 static unsigned least_count(unsigned next, unsigned b, unsigned first, uint64_t v)
 {
-    uint64_t sum = 1, choose = 1, power = 1;
-    unsigned h = next, k = 0;
+    uint64_t sum = 1, term = 1, h = next, k = 0;
     while (sum < v + first) {
-        h++;
         k++;
-        uint64_t wider = choose * h / k;
-        power *= b;
-        sum = sum * (b + 1) + (wider - choose) * power;
-        choose = wider;
+        term = term * h / k * b;   /* C(h, k) b^k */
+        sum = sum * (b + 1) + term;
+        h++;
     }
     return h;
 }
 
-void plain_lay_out(struct field *f, uint64_t m, uint64_t t, uint64_t v)
+void plain_lay_out(struct field *f, struct gorvlime_shape shape)
 {
+    uint64_t m = shape.m, t = shape.t, v = shape.v;
     f->m = m;
     f->t = t;
     f->v = v;
@@ -71,7 +62,7 @@ void plain_lay_out(struct field *f, uint64_t m, uint64_t t, uint64_t v)
     f->refusal = GORVLIME_ACCEPTED;
 }
 
-struct gorvlime_counts plain_layout(uint64_t m, uint64_t t, uint64_t v, uint64_t g)
+struct gorvlime_counts plain_layout(struct gorvlime_shape shape, uint64_t g)
 {
     struct gorvlime_counts answer = {0};
     struct field f;
@@ -79,11 +70,11 @@ struct gorvlime_counts plain_layout(uint64_t m, uint64_t t, uint64_t v, uint64_t
         answer.refusal = GORVLIME_BOUNDS;
         return answer;
     }
-    plain_lay_out(&f, m, t, v);
+    plain_lay_out(&f, shape);
     answer.refusal = f.refusal;
     if (answer.refusal == GORVLIME_ACCEPTED && f.h[0] > g)
         answer.refusal = GORVLIME_NO_ROOM;
-    for (unsigned i = 0; answer.refusal == GORVLIME_ACCEPTED && i < t; i++)
+    for (unsigned i = 0; answer.refusal == GORVLIME_ACCEPTED && i < shape.t; i++)
         answer.h[i] = f.h[i];
     return answer;
 }
@@ -99,59 +90,49 @@ uint64_t plain_misfit(const struct field *f, const uint8_t *cells, size_t count)
     return cells[count - 1] & ((1u << left_over) - 1) ? GORVLIME_CELLS : GORVLIME_ACCEPTED;
 }
 
-static void open_cells(const struct field *f, const uint8_t *cells, struct groups *g)
+/* Marks and counts the groups of cells that fit the field. The places are the unerased groups, as from generation 2 on. */
+static void open_cells(const struct field *f, const uint8_t *cells, size_t count, struct words *w)
 {
-    unsigned m = f->m, count = f->h[0], ones = (1u << m) - 1;
-    unsigned held = 0, bits = 0, zeros = 0, full = 0;
-    for (unsigned j = 0; j < count; j++) {
-        if (bits < m) {
-            held = held << 8 | *cells++;
-            bits += 8;
-        }
-        bits -= m;
-        unsigned value = held >> bits & ones;
-        g->value[j] = value;
-        zeros += value == 0;
-        full += value == ones;
+    uint64_t zeros = 0, unerased = 0;
+    w->m = f->m;
+    w->ones = (1u << f->m) - 1;
+    w->bytes = f->m == 3 ? 6 : 8;
+    w->count = (count + w->bytes - 1) / w->bytes;
+    w->behind = 8 * w->bytes * w->count - f->m * f->h[0];
+    w->low = (UINT64_MAX >> (64 - 8 * w->bytes)) / w->ones;
+    for (unsigned i = 0; i < w->count; i++) {
+        unsigned from = i * w->bytes;
+        uint64_t word = i + 1 < w->count ? load_word(w, cells + from) : load_last(w, cells + from, count - from);
+        w->word[i] = word;
+        w->zero[i] = w->low ^ nonzero_groups(w, word);
+        w->place[i] = w->low ^ erased_groups(w, word);
+        zeros += ones_by_byte(w->zero[i]);
+        unerased += ones_by_byte(w->place[i]);
     }
-    g->zeros = zeros;
-    g->full = full;
+    w->zeros = sum_of_bytes(zeros);
+    w->unerased = sum_of_bytes(unerased);
 }
 
-/* Stores a byte and counts the wits that this turns from 0 to 1; none goes back. */
-static unsigned turn(uint8_t *cell, uint8_t byte)
+/* Stores the words and counts the wits that this turns from 0 to 1; none goes back. */
+static unsigned store_cells(const struct words *w, uint8_t *cells, size_t count)
 {
-    unsigned x = *cell ^ byte;
-    *cell = byte;
-    x = x - (x >> 1 & 0x55);
-    x = (x & 0x33) + (x >> 2 & 0x33);
-    return (x + (x >> 4)) & 0x0f;
-}
-
-static unsigned store_cells(const struct field *f, const struct groups *g, uint8_t *cells)
-{
-    unsigned m = f->m, count = f->h[0];
-    unsigned held = 0, bits = 0, turned = 0;
-    for (unsigned j = 0; j < count; j++) {
-        held = held << m | g->value[j];
-        bits += m;
-        if (bits >= 8) {
-            bits -= 8;
-            turned += turn(cells++, held >> bits);
-        }
+    unsigned turned = 0, last = (w->count - 1) * w->bytes;
+    for (unsigned i = 0; i + 1 < w->count; i++) {
+        uint8_t *to = cells + i * w->bytes;
+        turned += ones_in(load_word(w, to) ^ w->word[i]);
+        store_word(w, w->word[i], to);
     }
-    if (bits > 0)
-        turned += turn(cells, held << (8 - bits));
+    turned += ones_in(load_last(w, cells + last, count - last) ^ w->word[w->count - 1]);
+    store_last(w, w->word[w->count - 1], cells + last, count - last);
     return turned;
 }
 
-static uint64_t binomial(unsigned n, unsigned k)
+/* Two factors to a division. Where k is above n, one of the factors is 0. */
+static uint64_t binomial(uint64_t n, unsigned k)
 {
-    uint64_t c = 1;
-    if (k > n)
-        return 0;
-    for (unsigned j = 0; j < k; j++)
-        c = c * (n - j) / (j + 1);
+    uint64_t c = k % 2 == 0 ? 1 : n;
+    for (uint64_t j = k % 2; j < k; j += 2)
+        c = c * ((n - j) * (n - j - 1)) / ((j + 1) * (j + 2));
     return c;
 }
 
@@ -162,35 +143,83 @@ static struct deal deal_of(const struct field *f, unsigned i)
     return (struct deal){.places = f->h[i - 1], .b = i == 1 ? ones : ones - 1, .first = i != 1};
 }
 
-/* The number of a pattern that writes k places. Groups of the value `skipped` are none of them. */
-static uint64_t pattern_number(const struct groups *g, unsigned count, struct deal d, unsigned k, unsigned skipped)
+/* In generation 1 all ones are data, so that every group of the field is a place. */
+static void make_all_places(struct words *w)
+{
+    for (unsigned i = 0; i < w->count; i++)
+        w->place[i] = w->low;
+    w->place[w->count - 1] = w->low >> w->behind << w->behind;
+}
+
+/* Rank and digits of the written places, from the right; power is b to their number. */
+static uint64_t rank_and_digits(const struct words *w, unsigned b, uint64_t power)
+{
+    uint64_t rank = 0, digits = 0, weight = 1;
+    unsigned passed = 0, written = 0;
+    for (unsigned i = w->count; i-- > 0; ) {
+        uint64_t word = w->word[i], place = w->place[i];
+        for (uint64_t marks = place & ~w->zero[i]; marks != 0; marks &= marks - 1) {
+            uint64_t below = (marks & -marks) - 1;
+            rank += binomial(passed + ones_in(place & below), ++written);
+            digits += ((word >> lowest_of(marks) & w->ones) - 1) * weight;
+            weight *= b;
+        }
+        passed += ones_in(place);
+    }
+    return rank * power + digits;
+}
+
+/* The number of the pattern on the places. */
+static uint64_t pattern_number(const struct words *w, struct deal d)
 {
     uint64_t fewer = 0, choose = 1, power = 1;
+    unsigned k = d.places - w->zeros;
     for (unsigned j = 0; j < k; j++) {
         fewer += choose * power;
         choose = choose * (d.places - j) / (j + 1);
         power *= d.b;
     }
-    uint64_t rank = 0, digits = 0, weight = 1;
-    unsigned label = 0, written = 0;
-    for (unsigned j = count; written < k; ) {
-        unsigned value = g->value[--j];
-        if (value == skipped)
-            continue;
-        if (value != 0) {
-            rank += binomial(label, ++written);
-            digits += (value - 1) * weight;
-            weight *= d.b;
+    return fewer - d.first + rank_and_digits(w, d.b, power);
+}
+
+/* Sets the digits on the chosen places, the lowest on the rightmost. */
+static void set_digits(struct words *w, const uint64_t *chosen, unsigned b, unsigned least, uint64_t digits)
+{
+    for (unsigned i = w->count; i-- > 0; ) {
+        for (uint64_t marks = chosen[i]; marks != 0; marks &= marks - 1) {
+            w->word[i] |= (least + digits % b) << lowest_of(marks);
+            digits /= b;
         }
-        label++;
     }
-    return fewer - d.first + rank * power + digits;
+}
+
+/* Marks the choice of k among n zero groups that has this rank; `choose` is C(n, k). */
+static void choose_places(const struct words *w, uint64_t n, uint64_t k, uint64_t choose, uint64_t rank, uint64_t *chosen)
+{
+    for (unsigned i = 0; i < w->count; i++) {
+        uint64_t left = w->zero[i];
+        chosen[i] = 0;
+        while (k > 0 && left != 0) {
+            uint64_t mark = (uint64_t)1 << highest_of(left);
+            uint64_t without = choose * (n - k) / n;
+            left ^= mark;
+            n--;
+            if (rank < without) {
+                choose = without;
+            } else {
+                rank -= without;
+                choose -= without;
+                k--;
+                chosen[i] |= mark;
+            }
+        }
+    }
 }
 
 /* Sets the pattern of a number on the zero groups, which are the places. */
-static void set_pattern(struct groups *g, struct deal d, uint64_t number)
+static void set_pattern(struct words *w, struct deal d, uint64_t number)
 {
-    uint8_t place[MOST_WRITTEN];
+    uint64_t chosen[MOST_WORDS];
     uint64_t choose = 1, power = 1;
     unsigned k = 0;
     number += d.first;
@@ -200,46 +229,22 @@ static void set_pattern(struct groups *g, struct deal d, uint64_t number)
         power *= d.b;
         k++;
     }
-    uint64_t rank = number / power, digits = number % power;
-    unsigned n = d.places, written = 0;
-    for (unsigned j = 0; written < k; j++) {
-        if (g->value[j] != 0)
-            continue;
-        uint64_t without = choose * (n - (k - written)) / n;
-        n--;
-        if (rank >= without) {
-            rank -= without;
-            choose -= without;
-            place[written++] = j;
-        } else {
-            choose = without;
-        }
-    }
-    while (k-- > 0) {
-        g->value[place[k]] = 1 + digits % d.b;
-        digits /= d.b;
-    }
+    choose_places(w, d.places, k, choose, number / power, chosen);
+    set_digits(w, chosen, d.b, 1, number % power);
 }
 
 /* The last generation: unerased groups are the digits of the number plus 1. */
-static uint64_t digits_number(const struct groups *g, unsigned count, unsigned ones)
+static uint64_t digits_number(const struct words *w)
 {
     uint64_t value = 0;
-    for (unsigned j = 0; j < count; j++)
-        if (g->value[j] != ones)
-            value = value * ones + g->value[j];
-    return value - 1;
-}
-
-static void set_digits(struct groups *g, unsigned count, unsigned ones, uint64_t number)
-{
-    uint64_t rest = number + 1;
-    for (unsigned j = count; rest > 0; ) {
-        if (g->value[--j] != 0)
-            continue;
-        g->value[j] = rest % ones;
-        rest /= ones;
+    for (unsigned i = 0; i < w->count; i++) {
+        for (uint64_t marks = w->place[i]; marks != 0; ) {
+            unsigned at = highest_of(marks);
+            value = value * w->ones + (w->word[i] >> at & w->ones);
+            marks ^= (uint64_t)1 << at;
+        }
     }
+    return value - 1;
 }
 
 static unsigned generation_of(const struct field *f, unsigned zeros)
@@ -250,77 +255,79 @@ static unsigned generation_of(const struct field *f, unsigned zeros)
     return i;
 }
 
-static struct gorvlime_reading read_groups(const struct field *f, const struct groups *g)
+static struct gorvlime_reading read_words(const struct field *f, struct words *w)
 {
     struct gorvlime_reading refused = {.refusal = GORVLIME_NO_READING};
-    unsigned count = f->h[0], ones = (1u << f->m) - 1;
-    unsigned i = generation_of(f, g->zeros);
+    unsigned i = generation_of(f, w->zeros);
     struct deal d = deal_of(f, i);
-    if (i > 1 && count - g->full != d.places)
+    if (i == 1)
+        make_all_places(w);
+    else if (w->unerased != d.places)
         return refused;
-    uint64_t number = i == f->t ? digits_number(g, count, ones)
-                                : pattern_number(g, count, d, d.places - g->zeros, i == 1 ? ones + 1 : ones);
+    uint64_t number = i == f->t ? digits_number(w) : pattern_number(w, d);
     if (number >= f->v)
         return refused;
-    return (struct gorvlime_reading){.generation = i, .number = number, .left = g->zeros == count ? f->t : f->t - i};
+    return (struct gorvlime_reading){.generation = i, .number = number, .left = w->zeros == f->h[0] ? f->t : f->t - i};
 }
 
 struct gorvlime_reading plain_read_cells(const struct field *f, const uint8_t *cells, size_t count)
 {
     struct gorvlime_reading refused = {.refusal = plain_misfit(f, cells, count)};
-    struct groups g;
+    struct words w;
     if (refused.refusal != GORVLIME_ACCEPTED)
         return refused;
-    open_cells(f, cells, &g);
-    return read_groups(f, &g);
+    open_cells(f, cells, count, &w);
+    return read_words(f, &w);
 }
 
-struct gorvlime_reading plain_read(uint64_t m, uint64_t t, uint64_t v, const uint8_t *cells, size_t cells_count)
+struct gorvlime_reading plain_read(struct gorvlime_shape shape, const uint8_t *cells, size_t cells_count)
 {
     struct field f;
-    plain_lay_out(&f, m, t, v);
+    plain_lay_out(&f, shape);
     return plain_read_cells(&f, cells, cells_count);
 }
 
 /* Nonzero groups become all ones, and so do zero ones from the left until `kept` are left. */
-static void erase(struct groups *g, unsigned count, unsigned ones, unsigned kept)
+static void erase(struct words *w, unsigned kept)
 {
-    unsigned spare = g->zeros - kept;
-    for (unsigned j = 0; j < count; j++) {
-        if (g->value[j] != 0) {
-            g->value[j] = ones;
-        } else if (spare > 0) {
-            g->value[j] = ones;
-            spare--;
-        }
+    unsigned spare = w->zeros - kept;
+    for (unsigned i = 0; i < w->count; i++) {
+        for (; spare > 0 && w->zero[i] != 0; spare--)
+            w->zero[i] ^= (uint64_t)1 << highest_of(w->zero[i]);
+        w->word[i] = (w->low ^ w->zero[i]) * w->ones;
     }
 }
 
-struct gorvlime_writing plain_write(uint64_t m, uint64_t t, uint64_t v, uint8_t *cells, size_t cells_count, uint64_t number)
+/* Writes generation i (from 1) on the words; what is erased before is the same for all. */
+static void write_words(const struct field *f, struct words *w, unsigned i, uint64_t number)
+{
+    erase(w, f->h[i - 1]);
+    if (i == f->t)
+        set_digits(w, w->zero, w->ones, 0, number + 1);
+    else
+        set_pattern(w, deal_of(f, i), number);
+}
+
+struct gorvlime_writing plain_write(struct gorvlime_shape shape, uint8_t *cells, size_t cells_count, uint64_t number)
 {
     struct gorvlime_writing answer = {0};
     struct field f;
-    struct groups g;
-    plain_lay_out(&f, m, t, v);
+    struct words w;
+    plain_lay_out(&f, shape);
     answer.refusal = plain_misfit(&f, cells, cells_count);
-    if (answer.refusal == GORVLIME_ACCEPTED && number >= v)
+    if (answer.refusal == GORVLIME_ACCEPTED && number >= f.v)
         answer.refusal = GORVLIME_NUMBER;
     if (answer.refusal != GORVLIME_ACCEPTED)
         return answer;
-    open_cells(&f, cells, &g);
-    struct gorvlime_reading r = read_groups(&f, &g);
+    open_cells(&f, cells, cells_count, &w);
+    struct gorvlime_reading r = read_words(&f, &w);
     answer.refusal = r.refusal;
-    if (answer.refusal == GORVLIME_ACCEPTED && r.generation == t)
+    if (answer.refusal == GORVLIME_ACCEPTED && r.generation == f.t)
         answer.refusal = GORVLIME_SPENT;
     if (answer.refusal != GORVLIME_ACCEPTED)
         return answer;
-    unsigned ones = (1u << m) - 1;
-    answer.generation = t - r.left + 1;
-    erase(&g, f.h[0], ones, f.h[answer.generation - 1]);
-    if (answer.generation == t)
-        set_digits(&g, f.h[0], ones, number);
-    else
-        set_pattern(&g, deal_of(&f, answer.generation), number);
-    answer.turned = store_cells(&f, &g, cells);
+    answer.generation = f.t - r.left + 1;
+    write_words(&f, &w, answer.generation, number);
+    answer.turned = store_cells(&w, cells, cells_count);
     return answer;
 }

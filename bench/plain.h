@@ -4,11 +4,11 @@
 
 #include "gorvlime.h"
 
-struct gorvlime_counts plain_layout(uint64_t m, uint64_t t, uint64_t v, uint64_t g);
+struct gorvlime_counts plain_layout(struct gorvlime_shape shape, uint64_t g);
 
-struct gorvlime_reading plain_read(uint64_t m, uint64_t t, uint64_t v, const uint8_t *cells, size_t cells_count);
+struct gorvlime_reading plain_read(struct gorvlime_shape shape, const uint8_t *cells, size_t cells_count);
 
-struct gorvlime_writing plain_write(uint64_t m, uint64_t t, uint64_t v, uint8_t *cells, size_t cells_count, uint64_t number);
+struct gorvlime_writing plain_write(struct gorvlime_shape shape, uint8_t *cells, size_t cells_count, uint64_t number);
 
 struct gorvlime_exported plain_export(uint64_t serial, uint64_t m, uint64_t t, uint64_t v, const uint8_t *cells,
                                       size_t cells_count, uint8_t *out, size_t out_count);

@@ -8,7 +8,8 @@ enum { MOST_DUMP = 65536, LONGEST_NUMBER = 9, NUMBERS_OF_A_RECORD = 5 };
 static const uint64_t MOST_SERIAL = UINT64_MAX >> 1;
 
 struct record {
-    uint64_t serial, m, t, v, length;
+    uint64_t serial, length;
+    struct gorvlime_shape shape;
     size_t start;
 };
 
@@ -30,7 +31,7 @@ struct gorvlime_exported plain_export(uint64_t serial, uint64_t m, uint64_t t, u
     uint8_t head[NUMBERS_OF_A_RECORD * LONGEST_NUMBER];
     if (serial > MOST_SERIAL)
         return (struct gorvlime_exported){.refusal = GORVLIME_SERIAL};
-    plain_lay_out(&f, m, t, v);
+    plain_lay_out(&f, (struct gorvlime_shape){.m = m, .t = t, .v = v});
     uint64_t refusal = plain_misfit(&f, cells, cells_count);
     if (refusal != GORVLIME_ACCEPTED)
         return (struct gorvlime_exported){.refusal = refusal};
@@ -64,8 +65,8 @@ static int get_number(const uint8_t *dump, size_t count, size_t *at, uint64_t *n
 /* The record at an offset below the dump's end. False: malformed. */
 static int get_record(const uint8_t *dump, size_t count, size_t at, struct record *r)
 {
-    if (!get_number(dump, count, &at, &r->serial) || !get_number(dump, count, &at, &r->m)
-        || !get_number(dump, count, &at, &r->t) || !get_number(dump, count, &at, &r->v)
+    if (!get_number(dump, count, &at, &r->serial) || !get_number(dump, count, &at, &r->shape.m)
+        || !get_number(dump, count, &at, &r->shape.t) || !get_number(dump, count, &at, &r->shape.v)
         || !get_number(dump, count, &at, &r->length))
         return 0;
     r->start = at;
@@ -88,10 +89,10 @@ struct gorvlime_found plain_step(const uint8_t *dump, size_t dump_count, size_t 
         found.offset = at;
         return found;
     }
-    plain_lay_out(&f, r.m, r.t, r.v);
+    plain_lay_out(&f, r.shape);
     struct gorvlime_reading reading = plain_read_cells(&f, dump + r.start, r.length);
     return (struct gorvlime_found){
-        .records = 1, .serial = r.serial, .m = r.m, .t = r.t, .v = r.v,
+        .records = 1, .serial = r.serial, .m = r.shape.m, .t = r.shape.t, .v = r.shape.v,
         .start = r.start, .length = r.length, .next = r.start + r.length,
         .refused = reading.refusal, .generation = reading.generation, .number = reading.number, .left = reading.left,
     };
@@ -100,9 +101,9 @@ struct gorvlime_found plain_step(const uint8_t *dump, size_t dump_count, size_t 
 static void put_row(uint64_t *row, const struct record *r, const struct gorvlime_reading *reading)
 {
     row[0] = r->serial;
-    row[1] = r->m;
-    row[2] = r->t;
-    row[3] = r->v;
+    row[1] = r->shape.m;
+    row[2] = r->shape.t;
+    row[3] = r->shape.v;
     row[4] = r->start;
     row[5] = r->length;
     row[6] = reading->refusal;
@@ -128,8 +129,8 @@ struct gorvlime_walked plain_walk(const uint8_t *dump, size_t dump_count, size_t
             walked.offset = walked.next;
             break;
         }
-        if (r.m != f.m || r.t != f.t || r.v != f.v)
-            plain_lay_out(&f, r.m, r.t, r.v);
+        if (r.shape.m != f.m || r.shape.t != f.t || r.shape.v != f.v)
+            plain_lay_out(&f, r.shape);
         struct gorvlime_reading reading = plain_read_cells(&f, dump + r.start, r.length);
         put_row(rows, &r, &reading);
         walked.rows++;

@@ -7,7 +7,7 @@
 enum { MOST_GENERATIONS = 16, MOST_GROUPS = 256 };
 
 /*
- * What m, t and v come to. Out of bounds, refusal is 1 and the counts mean nothing. In bounds there is always room in 256
+ * What a shape comes to. Out of bounds, refusal is 1 and the counts mean nothing. In bounds there is always room in 256
  * groups: the first count is at most 194.
  */
 struct field {
@@ -15,7 +15,7 @@ struct field {
     unsigned h[MOST_GENERATIONS];
 };
 
-void plain_lay_out(struct field *f, uint64_t m, uint64_t t, uint64_t v);
+void plain_lay_out(struct field *f, struct gorvlime_shape shape);
 
 /* 0, the field's own refusal, or 3 where the byte count is wrong or a left-over bit is 1. */
 uint64_t plain_misfit(const struct field *f, const uint8_t *cells, size_t count);

@@ -6,6 +6,8 @@
 #include "check.h"
 
 #include <inttypes.h>
+#include <stdio.h>
+#include <stdlib.h>
 
 #define RANGE ((uint64_t)1 << 56)
 
@@ -84,7 +86,7 @@ static void check_layouts(void)
     for (size_t i = 0; i < sizeof layouts / sizeof layouts[0]; i++) {
         uint64_t m = layouts[i].m, t = layouts[i].t, v = layouts[i].v, g = layouts[i].g;
         calling("layout m %" PRIu64 " t %" PRIu64 " v %" PRIu64 " g %" PRIu64, m, t, v, g);
-        struct gorvlime_counts c = CALL(layout)(m, t, v, g);
+        struct gorvlime_counts c = CALL(layout)(SHAPE(m, t, v), g);
         same("refusal", c.refusal, layouts[i].refusal);
         for (unsigned j = 0; j < 16; j++)
             same("a count", c.h[j], layouts[i].h[j]);
@@ -142,7 +144,7 @@ static void check_reads(void)
         struct lent cells = lend(reads[i].cells);
         uint64_t m = reads[i].m, t = reads[i].t, v = reads[i].v;
         calling("read m %" PRIu64 " t %" PRIu64 " v %" PRIu64 " cells %s", m, t, v, reads[i].cells);
-        struct gorvlime_reading r = CALL(read)(m, t, v, LENT(cells));
+        struct gorvlime_reading r = CALL(read)(SHAPE(m, t, v), LENT(cells));
         same("refusal", r.refusal, reads[i].refusal);
         same("generation", r.generation, reads[i].generation);
         same("number", r.number, reads[i].number);
@@ -199,7 +201,7 @@ static void check_writes(void)
         struct lent cells = lend(writes[i].cells);
         uint64_t m = writes[i].m, t = writes[i].t, v = writes[i].v, number = writes[i].number;
         calling("write m %" PRIu64 " t %" PRIu64 " v %" PRIu64 " cells %s number %" PRIu64, m, t, v, writes[i].cells, number);
-        struct gorvlime_writing w = CALL(write)(m, t, v, LENT(cells), number);
+        struct gorvlime_writing w = CALL(write)(SHAPE(m, t, v), LENT(cells), number);
         same("refusal", w.refusal, writes[i].refusal);
         same("generation", w.generation, writes[i].generation);
         same("turned", w.turned, writes[i].turned);
@@ -218,14 +220,14 @@ static unsigned ones_in(const struct lent *cells)
 /* From blank cells to the last generation, the same number each time. */
 static void check_chain(uint64_t m, uint64_t t, uint64_t v, uint64_t number)
 {
-    struct lent cells = lend_room((m * CALL(layout)(m, t, v, 256).h[0] + 7) / 8);
+    struct lent cells = lend_room((m * CALL(layout)(SHAPE(m, t, v), 256).h[0] + 7) / 8);
     uint64_t turned = 0;
     for (size_t i = 0; i < cells.count; i++)
         cells.all[MARGIN + i] = 0;
     for (uint64_t i = 1; i <= t; i++) {
         calling("write %" PRIu64 " of m %" PRIu64 " t %" PRIu64 " v %" PRIu64 " number %" PRIu64, i, m, t, v, number);
-        struct gorvlime_writing w = CALL(write)(m, t, v, LENT(cells), number);
-        struct gorvlime_reading r = CALL(read)(m, t, v, LENT(cells));
+        struct gorvlime_writing w = CALL(write)(SHAPE(m, t, v), LENT(cells), number);
+        struct gorvlime_reading r = CALL(read)(SHAPE(m, t, v), LENT(cells));
         turned += w.turned;
         same("refusal", w.refusal, 0);
         same("generation", w.generation, i);
@@ -235,7 +237,7 @@ static void check_chain(uint64_t m, uint64_t t, uint64_t v, uint64_t number)
         same("number read", r.number, number);
         same("left", r.left, t - i);
     }
-    same("refusal of one more", CALL(write)(m, t, v, LENT(cells), number).refusal, 5);
+    same("refusal of one more", CALL(write)(SHAPE(m, t, v), LENT(cells), number).refusal, 5);
 }
 
 /* Small and large ranges at every m and t; no field is larger than the header says. */
@@ -249,7 +251,7 @@ static void check_chains(void)
             check_chain(m, t, RANGE, RANGE - 1);
         }
         calling("layout m %" PRIu64 " t 16 v 2^56", m);
-        same("64 bytes hold it", m * CALL(layout)(m, 16, RANGE, 256).h[0] <= 8 * 64, 1);
+        same("64 bytes hold it", m * CALL(layout)(SHAPE(m, 16, RANGE), 256).h[0] <= 8 * 64, 1);
     }
 }
 
@@ -260,18 +262,23 @@ static void check_published_field(void)
     struct lent cells = lend("0000000000 0000000000 0000000000 0000000000 0000000000 0000000000 0000000000");
     for (unsigned i = 0; i < 10; i++) {
         calling("write %u of m 2 t 10 v 2^56", i + 1);
-        same("turned", CALL(write)(2, 10, RANGE, LENT(cells), RANGE - 1).turned, turned[i]);
+        same("turned", CALL(write)(SHAPE(2, 10, RANGE), LENT(cells), RANGE - 1).turned, turned[i]);
     }
     holds(&cells, "5FCFFAFF7E BE73EEFF3F FFFAFFFCF4 FFFFFB77FF FBD8FFFFFF DDFBFFFFF7 C7FFFC1FDC");
 }
 
-int main(void)
+/* The word is the number of checks that are due. */
+int main(int count, char **words)
 {
+    if (count != 2) {
+        fputs("usage: calls CHECKS\n", stderr);
+        return 2;
+    }
     check_layouts();
     check_reads();
     check_writes();
     check_chains();
     check_published_field();
     check_dump_calls();
-    return done();
+    return done(atoi(words[1]));
 }

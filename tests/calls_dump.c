@@ -223,9 +223,10 @@ static void check_changing_fields(void)
     dump.count = 0;
     for (unsigned i = 0; i < FIELDS; i++) {
         const uint64_t *f = fields[i];
+        struct gorvlime_shape shape = SHAPE(f[0], f[1], f[2]);
         uint8_t cells[8] = {0}, *out = dump.all + MARGIN + dump.count;
-        length[i] = (f[0] * CALL(layout)(f[0], f[1], f[2], 256).h[0] + 7) / 8;
-        CALL(write)(f[0], f[1], f[2], cells, length[i], 3);
+        length[i] = (f[0] * CALL(layout)(shape, 256).h[0] + 7) / 8;
+        CALL(write)(shape, cells, length[i], 3);
         dump.count += CALL(export)(i, f[0], f[1], f[2], cells, length[i], out, MOST_LENT - dump.count).length;
         start[i] = dump.count - length[i];
     }

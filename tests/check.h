@@ -29,8 +29,8 @@ struct lent lend_room(size_t count);
 /* The lent bytes are these now, the ones behind them up to the lent count are UNTOUCHED, and so are the margins. */
 void holds(const struct lent *lent, const char *hex);
 
-/* Prints the last line; the program's exit status. */
-int done(void);
+/* Prints how many checks were made; the program's exit status, which is 0 where none failed and as many were due. */
+int done(unsigned due);
 
 void check_dump_calls(void);
 

@@ -1,14 +1,15 @@
 #!/usr/bin/env python3
-"""Counts the multiplications and divisions of one layout: the code of crates/layout and crates/counting, step for step.
+"""Counts the multiplications and divisions of one layout: the code of crates/layout, step for step.
 
     tools/count_steps.py [m t v g]          m 2, t 10, v 2^56, g 256 where nothing is given
 
-The last line is `multiplications N divisions N sums N terms N`; the line before it is the layout.
+The last line is `multiplications N divisions N by-constant N climbs N places N`; the line before it is the layout.
+A division is by a number that the compiler does not know; one by a constant, which it makes a product, is counted apart.
 """
 import sys
 
-CAP = 2 ** 56 + 1
-steps = {"multiplications": 0, "divisions": 0, "sums": 0, "terms": 0}
+LAID_OUT = 16
+steps = {"multiplications": 0, "divisions": 0, "by-constant": 0, "climbs": 0, "places": 0}
 
 
 def times(a, b):
@@ -17,60 +18,40 @@ def times(a, b):
     return a * b
 
 
-def over(a, b):
-    steps["divisions"] += 1
+def over(a, b, kind="divisions"):
+    steps[kind] += 1
     return a // b
 
 
-def fewer(b, first, s, k):
-    steps["sums"] += 1
-    if k <= first:
-        return 0
-    term = 1 if first == 0 else times(s, b)
-    total, j = term, first
-    while j + 1 < k:
-        steps["terms"] += 1
-        q = over(times(term, s - j), j + 1)
-        if CAP <= q:
-            return CAP
-        term = times(q, b)
-        total += term
-        if CAP <= total:
-            return CAP
-        j += 1
-    return total
-
-
-def patterns(b, first, low, x):
-    return fewer(b, first, x, x - low + 1)
-
-
 def last_count(e, v):
-    x, p = 1, e
+    square = times(e, e)
+    x, p = 0, square
     while p <= v:
-        p = times(p, e)
-        x += 1
-    return x
+        p = times(p, square)
+        x += 2
+    return x + 1 if times(v, e) < p else x + 2
 
 
-def wide_step(b, low, guess, v, g):
-    d = guess
-    while low + d <= g:
-        if v <= patterns(b, 1, low, low + d):
-            return d
+def least_factor(b, need):
+    return over(need - 1, b) + 1
+
+
+def grow(b, low, d, s):
+    all_, term, more = s
+    kind = "by-constant" if d < LAID_OUT else "divisions"
+    up = all_ + times(all_ + more, b)
+    term = times(term + more, b)
+    return up, term, over(times(term, low), d + 2, kind)
+
+
+def climb(b, low, need, cut):
+    steps["climbs"] += 1
+    s, d = (1, 1, low), 0
+    while s[0] + s[2] < cut:
+        steps["places"] += 1
+        s = grow(b, low, d, s)
         d += 1
-    return d
-
-
-def count(b, first, low, d, v, g):
-    x = low + d
-    if g < x:
-        if patterns(b, first, low, g) < v:
-            return g + 1
-        x = g
-    while v <= patterns(b, first, low, x - 1):
-        x -= 1
-    return x
+    return low + d + 1 if s[0] < need else low + d
 
 
 def lay_out(m, t, v, g):
@@ -78,19 +59,20 @@ def lay_out(m, t, v, g):
         return 1, [0] * 16
     e = 2 ** m - 1
     low = last_count(e, v)
-    if g < low:
+    if g <= low:
         return 2, [0] * 16
     h = [0] * 16
     i = t - 1
     h[i] = low
-    d = wide_step(e - 1, low, over(times(low, 2), 5) + 1, v, g)
+    need = v + 1
+    cut = least_factor(e - 1, need)
     while 1 < i:
-        x = count(e - 1, 1, low, d, v, g)
-        if g < x:
+        low = climb(e - 1, low, need, cut)
+        if g <= low:
             return 2, [0] * 16
-        d, low, i = x - low, x, i - 1
-        h[i] = x
-    x = count(e, 0, low, d, v, g)
+        i -= 1
+        h[i] = low
+    x = climb(e, low, v, least_factor(e, v))
     if g < x:
         return 2, [0] * 16
     h[0] = x
