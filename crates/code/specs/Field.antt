@@ -58,7 +58,7 @@ pub data Reading : Type 0 where
   beyond : (generation : ℕ) → Reading
 
 -- "From generation 2 on the unerased groups must number exactly h_i. The number must be below v. Otherwise the cells have no reading.", at generation n + 1;
--- all groups of a field are h_1
+-- that generation 1 is tested too changes nothing: all groups of a field are h_1 (`groups-length`, code/proofs/Cells)
 unfoldable pub judged : ℕ → ℕ → List ℕ → List ℕ → List ℕ → ℕ → Reading
 judged e first hs vs gs n =
     let xs = carriers e n gs in
