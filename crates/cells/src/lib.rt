@@ -86,7 +86,7 @@ fn end_of(cells: &[u8], at: usize) -> usize
 }
 
 // The eight bytes from byte `at` on, as far as there are bytes, read one by one as a number; what is behind the last is 0.
-fn part(cells: &[u8], order: u64, at: usize) -> u64
+fn few_bytes(cells: &[u8], order: u64, at: usize) -> u64
     requires { ⌜ (at < length (now cells)) × (length (now cells) ≤ 128) ⌝ }
     ensures { λ r. ⌜ r ≡ Code.value (Code.wit order (now (cells .entry))) (8 * at) 64 ⌝ }
 {
@@ -123,7 +123,7 @@ fn ahead(cells: &[u8], order: u64, at: usize) -> u64
             return eight(cells, start) << (8 * (at - start));
         }
     }
-    part(cells, order, at)
+    few_bytes(cells, order, at)
 }
 
 // The bytes of a word: as many as its groups fill.

@@ -162,7 +162,7 @@ picked-jump (suc n) i q r low high =
     rw (suc-add n i, lt-leb (choose (suc (n + i)) (suc q)) r g) (picked-jump n i q r low high)
 
 -- the labels stand in l up to place `at`; `left` of them are to be found among `free` places
-pub record Laying (s k r₀ : ℕ) (l : List ℕ) (at free left r : ℕ) : Type 0 where
+pub record Unranking (s k r₀ : ℕ) (l : List ℕ) (at free left r : ℕ) : Type 0 where
   pub total : at + left ≡ k
   pub rest : take at l ++ picked free left r ≡ picked s k r₀
   pub fits : r < choose free left
@@ -173,9 +173,9 @@ unfolding picked
 picked-past zero i q r h = rw (zero-add i)
 picked-past (suc n) i q r h = rw (suc-add n i, lt-leb (choose (n + i) (suc q)) r (omega (arith, choose-more n i (suc q)))) (picked-past n i q r h)
 
-pub lay-begin : (s k r free : ℕ) (l : List ℕ) → 0 < k → free ≤ s → r < choose free k → Laying s k r l 0 free k r
-lay-begin s zero r free l p h fits = absurd (omega arith)
-lay-begin s (suc q) r free l p h fits =
+pub unrank-begin : (s k r free : ℕ) (l : List ℕ) → 0 < k → free ≤ s → r < choose free k → Unranking s k r l 0 free k r
+unrank-begin s zero r free l p h fits = absurd (omega arith)
+unrank-begin s (suc q) r free l p h fits =
     let e : s - free + free ≡ s = omega arith in
     record { total = omega arith; rest = sym (rw e at (picked-past (s - free) free q r fits)); fits = fits }
 
@@ -203,14 +203,14 @@ followed left r label fit under p q C e h =
     let u : suc (label - 1) ≡ label = omega arith in
     record { is = e; small = omega (arith, inner-small label left q (omega arith), C .is, C .small); high = rw u h }
 
-module _ (s k r₀ : ℕ) (l : List ℕ) (at free left r : ℕ) (L : Laying s k r₀ l at free left r) (room : at < length l) where
+module _ (s k r₀ : ℕ) (l : List ℕ) (at free left r : ℕ) (L : Unranking s k r₀ l at free left r) (room : at < length l) where
   -- the search found a label
   pub turn : (found fit : ℕ) → 0 < left → suc found ≤ free → r < choose (suc found) left → fit ≡ choose found left → fit ≤ r →
-      Laying s k r₀ (set l at found) (at + 1) found (left - 1) (r - fit)
+      Unranking s k r₀ (set l at found) (at + 1) found (left - 1) (r - fit)
   unfolding choose
   turn found fit w h high e low = put (left - 1) (free - suc found) (omega arith) (omega arith)
     where
-      put : (q n : ℕ) → left ≡ suc q → free ≡ suc (n + found) → Laying s k r₀ (set l at found) (at + 1) found q (r - fit)
+      put : (q n : ℕ) → left ≡ suc q → free ≡ suc (n + found) → Unranking s k r₀ (set l at found) (at + 1) found q (r - fit)
       put q n el ef =
           let v : fit ≡ choose found (suc q) = rw el at e in
           let high′ : r < choose (suc found) (suc q) = rw el at high in
@@ -222,8 +222,8 @@ module _ (s k r₀ : ℕ) (l : List ℕ) (at free left r : ℕ) (L : Laying s k 
           })
 
   -- the last label is the rank
-  pub lay-last : left ≡ 1 → take k (set l at r) ≡ picked s k r₀
-  lay-last one =
+  pub unrank-last : left ≡ 1 → take k (set l at r) ≡ picked s k r₀
+  unrank-last one =
       let e : k ≡ suc at = omega (arith, L .total) in
       let f : r < free = omega (arith, choose-one free, rw one at (L .fits)) in
       let g : free ≡ suc (free - suc r + r) = omega arith in

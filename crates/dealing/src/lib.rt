@@ -136,7 +136,7 @@ struct Reach {
 
 // "The way back goes group by group, from the highest label down": the labels of k written places of rank r among s places. The last label is what is left
 // of the rank.
-fn lay(labels: &mut [u8; PATTERN_MOST], s: u64, k: u64, r: u64)
+fn unrank(labels: &mut [u8; PATTERN_MOST], s: u64, k: u64, r: u64)
     requires { ⌜ length (now labels) ≡ patternMost ⌝ }
     requires { ⌜ (s ≤ 256) × (0 < k) × (k ≤ patternMost) × (r < cap) × (r < choose s k) ⌝ }
     ensures { λ _. ⌜ (take k (now (labels .exit)) ≡ picked s k r) × (length (now (labels .exit)) ≡ patternMost) ⌝ }
@@ -228,7 +228,7 @@ pub fn deal(
         power *= b;
         k += 1;
     }
-    lay(labels, s, k, rest / power);
+    unrank(labels, s, k, rest / power);
     plainly(values, k as usize, b, rest % power);
     k as usize
 }

@@ -21,9 +21,9 @@ halting (Malformed offset) = omega arith
 halting Oversize = omega arith
 
 -- what stands at a place fixes the reply there
-pub place-reply : (bytes : List ℕ) (at : ℕ) {s : Code.Step} → s ≡ step bytes at → stepValues bytes s ≡ stepReply bytes at
+pub located-reply : (bytes : List ℕ) (at : ℕ) {s : Code.Step} → s ≡ step bytes at → stepValues bytes s ≡ stepReply bytes at
 unfolding stepReply
-place-reply bytes at e = ap (stepValues bytes) e
+located-reply bytes at e = ap (stepValues bytes) e
 
 module _ (bytes : List ℕ) (at : ℕ) {s : Step} (gives : stepOf s ≡ stepReply bytes at) where
   pub gives-end : s ≡ End → step bytes at ≡ ended

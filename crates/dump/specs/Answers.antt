@@ -9,8 +9,8 @@ use Rattle.dump.specs.declared.Exported.{Exported}
 use Rattle.dump.specs.declared.Exported.the-variants.{Stored, Refused}
 use Rattle.dump.specs.declared.Halt.{Halt}
 use Rattle.dump.specs.declared.Halt.the-variants.{Malformed, Oversize}
-use Rattle.dump.specs.declared.Place.{Place}
-use Rattle.dump.specs.declared.Place.the-variants.{Record as RecordThere, End as EndThere, Stop as StopThere}
+use Rattle.dump.specs.declared.Located.{Located}
+use Rattle.dump.specs.declared.Located.the-variants.{Record as RecordThere, End as EndThere, Stop as StopThere}
 use Rattle.dump.specs.declared.Step.{Step}
 use Rattle.dump.specs.declared.Step.the-variants.{Record, End, Stop}
 use Rattle.dump.specs.declared.Walked.{Walked}
@@ -40,10 +40,10 @@ abbrev pub haltOf : Halt → List ℕ
 haltOf halt = haltNumber halt ∷ haltCarries halt
 
 -- what stands at a place, as a step of the walk
-abbrev pub placeOf : Place → Code.Step
-placeOf (RecordThere r) = Code.taken r
-placeOf EndThere = Code.ended
-placeOf (StopThere halt) = Code.stopped (haltNumber halt) (haltCarries halt)
+abbrev pub locatedOf : Located → Code.Step
+locatedOf (RecordThere r) = Code.taken r
+locatedOf EndThere = Code.ended
+locatedOf (StopThere halt) = Code.stopped (haltNumber halt) (haltCarries halt)
 
 abbrev pub stepOf : Step → List ℕ
 stepOf (Record r outcome) = 0 ∷ (recordNumbers r ++ readingOf outcome)

@@ -13,7 +13,7 @@ ghost use Rattle.code.specs.Dump.{exportReply, exportLeaves, step, taken, stepV
 ghost use Rattle.storing.specs.Put.{Put};
 ghost use Rattle.layout.specs.Plan.{Planned};
 ghost use Rattle.field.specs.Answers.{readingOf};
-ghost use Rattle.dump.specs.Answers.{rowLength, exportedOf, placeOf, stepOf, walkedOf, haltedBy};
+ghost use Rattle.dump.specs.Answers.{rowLength, exportedOf, locatedOf, stepOf, walkedOf, haltedBy};
 
 // The most bytes of a dump.
 pub const DUMP_MOST: usize = 65536;
@@ -64,24 +64,24 @@ pub enum Step {
 }
 
 // What stands at a place: a record that is not read yet, the end, or why the walk stops.
-enum Place {
+enum Located {
     Record(Record),
     End,
     Stop(Halt),
 }
 
-fn locate(dump: &[u8], at: usize) -> Place
-    ensures { λ r. ⌜ placeOf r ≡ step (now (dump .entry)) at ⌝ }
+fn locate(dump: &[u8], at: usize) -> Located
+    ensures { λ r. ⌜ locatedOf r ≡ step (now (dump .entry)) at ⌝ }
 {
     if DUMP_MOST < dump.len() {
-        return Place::Stop(Halt::Oversize);
+        return Located::Stop(Halt::Oversize);
     }
     if dump.len() <= at {
-        return Place::End;
+        return Located::End;
     }
     match records::read_head(dump, at) {
-        Head::Whole(record) => Place::Record(record),
-        Head::Malformed { offset } => Place::Stop(Halt::Malformed { offset }),
+        Head::Whole(record) => Located::Record(record),
+        Head::Malformed { offset } => Located::Stop(Halt::Malformed { offset }),
     }
 }
 
@@ -90,13 +90,13 @@ pub fn step_at(dump: &[u8], at: usize) -> Step
     ensures { λ r. ⌜ stepOf r ≡ stepReply (now (dump .entry)) at ⌝ }
 {
     match locate(dump, at) {
-        Place::Record(record) => {
+        Located::Record(record) => {
             let cells = records::part(dump, record.start, record.count);
             let outcome = field::read(record.shape, cells);
             Step::Record { record, outcome }
         }
-        Place::End => Step::End,
-        Place::Stop(halt) => Step::Stop(halt),
+        Located::End => Step::End,
+        Located::Stop(halt) => Step::Stop(halt),
     }
 }
 
@@ -148,12 +148,12 @@ pub fn step_kept(dump: &[u8], at: usize, h: &mut [u64; 16], kept: Plan) -> Stepp
     ensures { λ r. ⌜ (stepOf (r .step) ≡ stepReply (now (dump .entry)) at) × Planned (r .kept) (now (h .exit)) ⌝ }
 {
     match locate(dump, at) {
-        Place::Record(record) => step_record(dump, h, kept, record),
-        Place::End => {
+        Located::Record(record) => step_record(dump, h, kept, record),
+        Located::End => {
             let step = Step::End;
             Stepped { step, kept }
         }
-        Place::Stop(halt) => {
+        Located::Stop(halt) => {
             let step = Step::Stop(halt);
             Stepped { step, kept }
         }

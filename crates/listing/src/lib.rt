@@ -92,7 +92,7 @@ fn put_halt_lines(out: &mut [u8], at: usize, count: u64, halt: Halt) -> usize
 }
 
 // Tells the lines of the step that is due. The dump stands here for the promise alone.
-fn tell(dump: &[u8], s: Listing, step: Step, out: &mut [u8], at: usize) -> Told
+fn tell_step(dump: &[u8], s: Listing, step: Step, out: &mut [u8], at: usize) -> Told
     requires { ⌜ Standing s × (s .over ≡ false) × (at + linesMost ≤ length (now out)) ⌝ }
     requires { ⌜ stepOf «step» ≡ stepReply (now dump) (s .next) ⌝ }
     ensures { λ r. ⌜ Tells (now (dump .entry)) s (now (out .entry)) (now (out .exit)) at r ⌝ }
@@ -128,7 +128,7 @@ pub fn fill(dump: &[u8], start: Listing, out: &mut [u8]) -> Told
         let stepped = dump::step_kept(dump, s.next, &mut h, kept);
         kept = stepped.kept;
         let step = stepped.step;
-        let told = tell(dump, s, step, out, end);
+        let told = tell_step(dump, s, step, out, end);
         s = told.listing;
         end = told.end;
         if s.over {

@@ -59,9 +59,9 @@ deal-spec =
     (λ c. omega (arith, passed (c .before) .more))
     -- loop-again
     (λ c. (omega arith, split-turn (c .before .before .loop .inv .1) _ (c .before .loop-test .taken) (passed (c .before)) (c .next-term .ensures)))
-    -- div-lay
+    -- div-unrank
     (λ c. let a = c .before .before .before .before in split-divisor (a .pre .1 .1) (c .before .before .loop .inv .1) (omega arith))
-    -- lay-requires
+    -- unrank-requires
     (λ c κs.
     let s = c .before .before .loop in
     let a = c .before .before .before .before in
@@ -78,6 +78,6 @@ deal-spec =
     (λ c.
     let s = c .before .before .before .before .before .loop in
     let a = c .before .before .before .before .before .before .before in
-    let l = c .before .before .lay .ensures in
+    let l = c .before .before .unrank .ensures in
     let p = c .plainly .ensures in
     (split-chosen (a .pre .1 .1) (s .inv .1) (omega arith) _ _ (l .0) (p .0), (few (c .before .before .before .before .before), l .1, p .1))))

@@ -1,7 +1,7 @@
 -- `dump::step_at` meets its contract. Assumes nothing.
 use borrow.Author.Needs.{needs}
 use Rattle.code.specs.Dump.{cellsOf, outcome, stepValues}
-use Rattle.dump.proofs.Steps.{place-reply}
+use Rattle.dump.proofs.Steps.{located-reply}
 use Rattle.dump.proofs.step_at.Statement.{statement}
 use Rattle.dump.proofs.step_at.Tie as tie
 
@@ -23,8 +23,8 @@ step-at-spec =
     -- enum-known-halt
     (λ c. search needs)
     -- returns
-    (λ c. cc (place-reply _ _ (rw (c .before .before .before .record .given .1) at (c .before .before .before .before .before .locate .ensures))))
+    (λ c. cc (located-reply _ _ (rw (c .before .before .before .record .given .1) at (c .before .before .before .before .before .locate .ensures))))
     -- returns-2
-    (λ c. place-reply _ _ (rw (c .enum-told .given .1) at (c .before .before .locate .ensures)))
+    (λ c. located-reply _ _ (rw (c .enum-told .given .1) at (c .before .before .locate .ensures)))
     -- returns-3
-    (λ c. place-reply _ _ (rw (c .before .halt .given .1) at (c .before .before .before .locate .ensures))))
+    (λ c. located-reply _ _ (rw (c .before .halt .given .1) at (c .before .before .before .locate .ensures))))

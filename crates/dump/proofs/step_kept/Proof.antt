@@ -2,7 +2,7 @@
 use mathlib.Core.Path.{_∙_}
 use borrow.Author.Needs.{needs}
 use Rattle.code.specs.Dump.{stepValues}
-use Rattle.dump.proofs.Steps.{place-reply}
+use Rattle.dump.proofs.Steps.{located-reply}
 use Rattle.dump.proofs.step_kept.Statement.{statement}
 use Rattle.dump.proofs.step_kept.Tie as tie
 
@@ -25,8 +25,8 @@ step-kept-spec =
     (λ c.
     let made = c .step-record .ensures in
     let r = c .before .before .before in
-    (made .0 ∙ place-reply _ _ (rw (r .record .given .1) at (r .before .before .locate .ensures)), made .1))
+    (made .0 ∙ located-reply _ _ (rw (r .record .given .1) at (r .before .before .locate .ensures)), made .1))
     -- returns-2
-    (λ c. let l = c .before .before in (place-reply _ _ (rw (c .enum-told .given .1) at (l .locate .ensures)), l .before .before .pre))
+    (λ c. let l = c .before .before in (located-reply _ _ (rw (c .enum-told .given .1) at (l .locate .ensures)), l .before .before .pre))
     -- returns-3
-    (λ c. let l = c .before .before .before in (place-reply _ _ (rw (c .before .halt .given .1) at (l .locate .ensures)), l .before .before .pre)))
+    (λ c. let l = c .before .before .before in (located-reply _ _ (rw (c .before .halt .given .1) at (l .locate .ensures)), l .before .before .pre)))

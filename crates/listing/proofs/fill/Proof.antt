@@ -35,7 +35,7 @@ fill-spec =
     (λ c. search needs)
     -- step-kept-requires
     (λ c κs. c .before .before .loop .inv .3)
-    -- tell-requires
+    -- tell-step-requires
     (λ c κs.
     let k = c .before .before in
     let l = k .before .before .before .loop in
@@ -43,20 +43,20 @@ fill-spec =
     -- same-length
     (λ c.
     let t = c .before .before .before .before in
-    put-length (t .tell .ensures .put .put) ∙ t .before .before .before .before .before .before .loop .inv .2 .same)
+    put-length (t .tell-step .ensures .put .put) ∙ t .before .before .before .before .before .before .loop .inv .2 .same)
     -- returns
     (λ c.
     let t = c .before .before .before .before in
     let v = t .before .before .before .before .before .before .loop .inv in
-    filling-end (filling-next (v .2) (v .0) (omega arith) (t .tell .ensures)) (λ on. clash (cc)))
+    filling-end (filling-next (v .2) (v .0) (omega arith) (t .tell-step .ensures)) (λ on. clash (cc)))
     -- loop-less
-    (λ c. let told = c .before .before .before .before .tell .ensures in omega (arith, told .further (c .if1 .left), told .standing .within))
+    (λ c. let told = c .before .before .before .before .tell-step .ensures in omega (arith, told .further (c .if1 .left), told .standing .within))
     -- loop-again
     (λ c.
     let t = c .before .before .before .before in
     let k = t .before .before .before in
     let v = k .before .before .before .loop .inv in
-    (c .if1 .left, v .1, filling-next (v .2) (v .0) (omega arith) (t .tell .ensures), k .step-kept .ensures .1))
+    (c .if1 .left, v .1, filling-next (v .2) (v .0) (omega arith) (t .tell-step .ensures), k .step-kept .ensures .1))
     -- same-length-2
     (λ c. search needs)
     -- returns-2

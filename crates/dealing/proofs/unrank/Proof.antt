@@ -1,4 +1,4 @@
--- `dealing::lay` meets its contract. Assumes nothing.
+-- `dealing::unrank` meets its contract. Assumes nothing.
 use mathlib.Core.Path.{_≡_}
 use Prim.Native.Nat.{suc, _-_, _<_, _≤_}
 use native.Mathlib.Omega.{arith}
@@ -7,9 +7,9 @@ use lib.ListN.{length, length-set}
 use Rattle.code.specs.Chosen.{patternMost}
 use Rattle.counting.proofs.Laws.{choose-one}
 use Rattle.dealing.specs.Pick.{Candidate}
-use Rattle.dealing.proofs.Drawing.{Laying, lay-begin, lay-last, enough, stepped, followed, turn}
-use Rattle.dealing.proofs.lay.Statement.{statement}
-use Rattle.dealing.proofs.lay.Tie as tie
+use Rattle.dealing.proofs.Drawing.{Unranking, unrank-begin, unrank-last, enough, stepped, followed, turn}
+use Rattle.dealing.proofs.unrank.Statement.{statement}
+use Rattle.dealing.proofs.unrank.Tie as tie
 
 abbrev Inv-loop2 : tie.InvT-loop2
 Inv-loop2 labels s k r label₀ fit₀ left r' at label fit = (label ≤ label₀) × Candidate left r' label fit
@@ -19,7 +19,7 @@ abbrev μ-loop2 : tie.MeasureT-loop2
 
 abbrev Inv-loop : tie.InvT-loop
 Inv-loop labels₀ s k r label₀ fit₀ left₀ r₀ at₀ labels label fit left r' at =
-    (length labels ≡ patternMost) × (k ≤ patternMost) × (0 < left) × (label ≤ 255) × Candidate left r' label fit × Laying s k r labels at (suc label) left r'
+    (length labels ≡ patternMost) × (k ≤ patternMost) × (0 < left) × (label ≤ 255) × Candidate left r' label fit × Unranking s k r labels at (suc label) left r'
 
 abbrev μ-loop : tie.MeasureT-loop
 μ-loop labels₀ s k r label₀ fit₀ left₀ r₀ at₀ labels label fit left r' at = left
@@ -28,8 +28,8 @@ abbrev μ-loop : tie.MeasureT-loop
 some : (c : tie.At-loop2 Inv-loop2 μ-loop2 Inv-loop μ-loop) → c .before .before .before .loop .left ≤ suc (c .loop2 .label)
 some c = enough _ _ _ (c .loop2 .inv .1 .high)
 
-pub lay-spec : {M : Type 1} → statement M
-lay-spec =
+pub unrank-spec : {M : Type 1} → statement M
+unrank-spec =
     tie.close
     (tie.spec
     Inv-loop2
@@ -44,7 +44,7 @@ lay-spec =
     let p = c .before .pre .1 in
     let x = c .settle .ensures in
     let C = x .1 (a .r) (p .3) (p .4) in
-    (c .before .pre .0, p .2, p .1, omega arith, C, lay-begin (a .s) (a .k) (a .r) _ (a .labels .now) (p .1) (x .0) (C .high)))
+    (c .before .pre .0, p .2, p .1, omega arith, C, unrank-begin (a .s) (a .k) (a .r) _ (a .labels .now) (p .1) (x .0) (C .high)))
     -- leap-requires
     (λ c κs. let s = c .before .loop in (s .inv .3, s .inv .4))
     -- loop2-holds
@@ -99,4 +99,4 @@ lay-spec =
     -- returns
     (λ c.
     let s = c .before .loop in
-    (lay-last _ _ _ _ _ _ _ _ (s .inv .5) (omega arith) (omega arith), simp length-set (s .inv .0))))
+    (unrank-last _ _ _ _ _ _ _ _ (s .inv .5) (omega arith) (omega arith), simp length-set (s .inv .0))))

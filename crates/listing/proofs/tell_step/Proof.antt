@@ -1,13 +1,13 @@
--- `listing::tell` meets its contract. Assumes nothing.
+-- `listing::tell_step` meets its contract. Assumes nothing.
 use native.Mathlib.Omega.{arith}
 use borrow.Author.Needs.{needs}
 use Rattle.dump.proofs.Steps.{record-further}
 use Rattle.listing.proofs.Telling.{record-refusing, tells-record, tells-end, tells-stop}
-use Rattle.listing.proofs.tell.Statement.{statement}
-use Rattle.listing.proofs.tell.Tie as tie
+use Rattle.listing.proofs.tell_step.Statement.{statement}
+use Rattle.listing.proofs.tell_step.Tie as tie
 
-pub tell-spec : {M : Type 1} → statement M
-tell-spec =
+pub tell-step-spec : {M : Type 1} → statement M
+tell-step-spec =
     tie.close
     (tie.spec
     -- enum-known-step

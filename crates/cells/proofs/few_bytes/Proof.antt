@@ -1,11 +1,11 @@
--- `cells::part` meets its contract: the loop keeps `Reading`: the number of the bytes so far.
+-- `cells::few_bytes` meets its contract: the loop keeps `Reading`: the number of the bytes so far.
 -- Assumes nothing.
 use borrow.Author.Needs.{needs}
 use Prim.Native.Nat.{_-_, _≤_}
 use native.Mathlib.Omega.{arith}
 use Rattle.cells.proofs.Values.{Reading, reading-none, reading-fits, reading-more, reading-all}
-use Rattle.cells.proofs.part.Statement.{statement}
-use Rattle.cells.proofs.part.Tie as tie
+use Rattle.cells.proofs.few_bytes.Statement.{statement}
+use Rattle.cells.proofs.few_bytes.Tie as tie
 
 abbrev Inv-loop : tie.InvT-loop
 Inv-loop cells order at end x₀ i₀ x i = (i ≤ end) × Reading order cells at i x
@@ -19,8 +19,8 @@ add-x c = record { fits = omega (arith, reading-fits _ _ (c .before .before .bef
 returns : tie.Need-returns Inv-loop μ-loop
 returns c = reading-all _ _ (c .before .loop .inv .1) _ (omega arith) (omega arith) (omega arith) (c .before .before .«end-of» .ensures .last)
 
-pub part-spec : {M : Type 1} → statement M
-part-spec =
+pub few-bytes-spec : {M : Type 1} → statement M
+few-bytes-spec =
     tie.close
     (tie.spec
     Inv-loop
