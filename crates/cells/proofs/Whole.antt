@@ -1,13 +1,10 @@
 -- The field's groups are the first of all words' groups.
 use mathlib.Core.Path.{_≡_, refl, sym, ap, _∙_}
 use mathlib.Core.List.{List, [], _∷_, _++_, append-assoc}
-use Prim.Native.Nat.{ℕ, _*_, _-_, _^_}
-use lib.ListN.{length, take, drop, replicate, take-append-drop}
+use Prim.Native.Nat.{ℕ}
+use lib.ListN.{length, take, drop, take-append-drop}
 use lib.Seq.{take-at}
-use Rattle.code.specs.Cells.{wit, opened}
-use Rattle.code.proofs.Cells.{groups-length}
-use Rattle.words.specs.Words.{groupsOf, allGroups, wordGroups}
-use Rattle.cells.specs.Cells.{Loaded}
+use Rattle.words.specs.Words.{groupsOf, allGroups}
 
 all-append : (m n : ℕ) (xs ys : List ℕ) → allGroups m n (xs ++ ys) ≡ allGroups m n xs ++ allGroups m n ys
 unfolding allGroups
@@ -22,9 +19,3 @@ field-front m n r ws gs ps e =
     let q : allGroups m n ws ≡ gs ++ (ps ++ rest) =
     ap (allGroups m n) (sym (take-append-drop r ws)) ∙ all-append m n (take r ws) (drop r ws) ∙ ap (λ (x : List ℕ). x ++ rest) e ∙ append-assoc gs ps rest in
     rw q (take-at gs (ps ++ rest) (length gs) refl)
-
--- what is loaded is the field's
-pub loaded-front : (o m h : ℕ) (bs ws : List ℕ) (r : ℕ) → Loaded o m h bs ws r → take h (allGroups m (wordGroups m) ws) ≡ opened o m h bs
-loaded-front o m h bs ws r L =
-    let gs = opened o m h bs in
-    rw (groups-length m h (wit o bs)) at (field-front m (wordGroups m) r ws gs (replicate (wordGroups m * r - h) (2 ^ m - 1)) (L .made))

@@ -1,7 +1,7 @@
 -- The steps between the counts of the granted list: each is at most 57, and for equal ranges they never grow from the last generations towards the first
 -- (003, Proposition 1).
 use mathlib.Core.Path.{_≡_}
-use Prim.Native.Nat.{ℕ, zero, suc, _+_, _*_, _-_, _^_, _≤_, _<_}
+use Prim.Native.Nat.{ℕ, zero, suc, _+_, _-_, _^_, _≤_, _<_}
 use native.Mathlib.Nat.{le-trans, add-sub-cancel-left, mul-le-mul, pow-le-pow-left}
 use lib.Pow.{pow-mono}
 use native.Mathlib.Omega.{arith}
@@ -9,7 +9,7 @@ use lib.Dec.{leb}
 use lib.ListN.{getD, replicate}
 use borrow.Author.Tests.{le-leb, leb-true}
 use mathlib.Core.List.{List, [], _∷_}
-use Rattle.code.specs.Count.{choose, fewer, least}
+use Rattle.code.specs.Count.{choose, least}
 use Rattle.code.specs.Layout.{room, counts, grant}
 use Rattle.code.proofs.Tests.{least-low, least-le, least-passes}
 use Rattle.code.specs.Lists.{Upto}

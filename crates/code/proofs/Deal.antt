@@ -1,12 +1,12 @@
 -- Numbers and patterns answer each other.
 use Prim.Native.Nat.{ℕ, zero, suc, _+_, _*_, _-_, _^_, _/_, _%_, _≤_, _<_}
-use mathlib.Core.Path.{_≡_, refl, sym, ap, _∙_}
+use mathlib.Core.Path.{_≡_, refl, ap}
 use mathlib.Core.Logic.{inl, inr}
 use mathlib.Core.Bool.{Bool}
-use mathlib.Core.List.{List, [], _∷_, _++_}
+use mathlib.Core.List.{List, [], _∷_}
 use native.Mathlib.Omega.{arith}
-use native.Mathlib.Nat.{pow-zero, pow-succ', one-le-pow, div-lt-iff-lt-mul, mod-lt, div-add-mod', add-sub-cancel-left, le-antisymm, zero-add, suc-add, add-suc}
-use lib.ListN.{length, replicate}
+use native.Mathlib.Nat.{pow-zero, pow-succ', one-le-pow, div-lt-iff-lt-mul, mod-lt, div-add-mod', add-sub-cancel-left, le-antisymm}
+use lib.ListN.{length}
 use lib.Dec.{ltb}
 use lib.Arith.{digits-lt, digits-div, digits-mod}
 use borrow.Author.Tests.{le-leb, lt-leb, lt-ltb, ltb-true}
@@ -14,7 +14,7 @@ use Rattle.code.specs.Count.{choose, fewer, least}
 use Rattle.code.specs.Deal.{written, rank, digits, number, laid, places, deal, plain, plainly}
 use Rattle.code.specs.Lists.{Upto}
 use Rattle.code.proofs.Tests.{le-or-lt, least-le, least-found}
-use Rattle.code.proofs.Count.{choose-grows, choose-more, fewer-none, fewer-step, fewer-grows}
+use Rattle.code.proofs.Count.{choose-grows, fewer-none, fewer-step, fewer-grows}
 
 -- p has s places, k of them written, rank r and digits d
 pub record Pattern (b s k r d : ℕ) (p : List ℕ) : Type 0 where
@@ -117,15 +117,6 @@ laid-zero : (b s k r d : ℕ) → r < choose s k → laid b (suc s) k r d ≡ 0 
 unfolding laid
 laid-zero b s zero r d h = refl
 laid-zero b s (suc k) r d h = rw (lt-leb (choose s (suc k)) r h)
-
--- the way back by labels: the first written place has the highest label i whose binomial still fits
-pub laid-jump : (b n i k r d : ℕ) → choose i (suc k) ≤ r → r < choose (suc i) (suc k) →
-    laid b (suc (n + i)) (suc k) r d ≡ replicate n 0 ++ (suc (d / b ^ k) ∷ laid b i k (r - choose i (suc k)) (d % b ^ k))
-unfolding laid
-laid-jump b zero i k r d h l = rw (zero-add i, le-leb (choose i (suc k)) r h)
-laid-jump b (suc n) i k r d h l =
-    laid-zero b (suc n + i) (suc k) r d (omega (arith, choose-more n (suc i) (suc k), ap (λ (s : ℕ). choose s (suc k)) (add-suc n i ∙ sym (suc-add n i))))
-    ∙ rw (suc-add n i, laid-jump b n i k r d h l)
 
 pub laid-back : (b : ℕ) (p : List ℕ) → Upto b p → laid b (length p) (written p) (rank p) (digits b p) ≡ p
 unfolding laid written rank digits

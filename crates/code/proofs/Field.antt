@@ -6,17 +6,17 @@ use mathlib.Core.Bool.{Bool, true, false, cond, _&&_}
 use mathlib.Core.List.{List, [], _∷_}
 use native.Mathlib.Omega.{arith}
 use lib.ListN.{length, getD}
-use lib.Dec.{leb, ltb, eqb}
+use lib.Dec.{ltb, eqb}
 use borrow.Author.Tests.{le-leb, lt-leb, lt-ltb, le-ltb, ltb-true, eq-eqb, ne-eqb}
 use Rattle.code.specs.Deal.{written, deal, plainly}
 use Rattle.code.specs.Layout.{room}
-use Rattle.code.specs.Field.{zeros, unerased, past, base, start, carriers, told, pattern, Reading, blank, reads, miscounted, beyond, judged, read, erase, cleared, lay, after, refused, wrote, writeAt, writeOn, write}
+use Rattle.code.specs.Field.{zeros, past, base, start, carriers, told, pattern, Reading, blank, reads, miscounted, beyond, judged, read, erase, cleared, lay, after, refused, wrote, writeAt, writeOn, write}
 use Rattle.code.specs.Lists.{Upto}
 use Rattle.code.proofs.Tests.{le-or-lt, clash}
 use Rattle.code.proofs.Deal.{deal-is, plainly-is, plain-written, blank-number}
 use Rattle.code.proofs.Places.{told-before}
 use Rattle.code.proofs.Conditions.{Holds, Layout, holds-falls, holds-room, head-most}
-use Rattle.code.proofs.Groups.{Grows, zeros-written, unerased-zeros, upto-grows, erase-wiped, erase-zeros, erase-length, lay-is, lay-blank, lay-grows, erase-lay-grows}
+use Rattle.code.proofs.Groups.{Grows, zeros-written, upto-grows, erase-wiped, erase-zeros, erase-length, lay-is, lay-blank, lay-grows, erase-lay-grows}
 
 pub base-bounds : (e first n : ℕ) → 2 ≤ e → first ≤ 1 → (0 < base e n) × (e - 1 ≤ base e n) × (start first n ≤ 1)
 unfolding base start
@@ -75,18 +75,6 @@ past-below h (k ∷ hs) z = elim (le-or-lt k z) [
   | inl l ↦ rw (le-leb k z l) (omega arith)
   | inr g ↦ rw (lt-leb k z g) (omega (arith, past-below k hs z))
 ]
-
-pub past-above : (hs : List ℕ) (z n : ℕ) → past hs z ≡ suc n → z < getD hs (suc n) 0
-unfolding past
-past-above [] z n q = absurd (omega arith)
-past-above (h ∷ hs) z n q = elim (le-or-lt (getD hs 0 0) z) [
-  | inl l ↦ absurd (omega (arith, rw (le-leb (getD hs 0 0) z l) at q))
-  | inr g ↦ go n (past-above hs z) (omega (arith, rw (lt-leb (getD hs 0 0) z g) at q)) g
-]
-  where
-    go : (n : ℕ) → ((k : ℕ) → past hs z ≡ suc k → z < getD hs (suc k) 0) → past hs z ≡ n → z < getD hs 0 0 → z < getD hs n 0
-    go zero ih q g = g
-    go (suc n) ih q g = ih n q
 
 -- which groups generation n + 1 may be written on
 abbrev pub Ready : List ℕ → ℕ → List ℕ → Type 0

@@ -1,14 +1,12 @@
 -- The number that wits make, lists of such numbers, and sums of wits. The wits are any function, so none of this looks at bytes.
 use mathlib.Core.Path.{_≡_, refl, sym, ap, _∙_}
-use mathlib.Core.Logic.{_≢_}
 use Prim.Native.Nat.{ℕ, zero, suc, _+_, _-_, _^_, _/_, _≤_, _<_}
 use native.Mathlib.Omega.{arith}
 use native.Mathlib.Decide.{ℕ-discrete}
-use native.Mathlib.Nat.{pow-succ', suc-add, add-suc, add-zero, zero-add, lt-of-lt-of-le}
+use native.Mathlib.Nat.{pow-succ', suc-add, add-suc, add-zero, lt-of-lt-of-le}
 use lib.Pow.{pow-mono}
 use lib.Arith.{lt-of-le-ne}
-use lib.ListN.{length, getD, set, length-set}
-use lib.Seq.{getD-set-same, getD-set-other, ext-getD}
+use lib.ListN.{length, getD}
 use Rattle.code.specs.Cells.{value, listed, sum}
 use Rattle.code.proofs.Bits.{bit, bit-suc, bits-ext}
 
@@ -65,21 +63,6 @@ unfolding listed
 listed-at f i zero k h = absurd (omega arith)
 listed-at f i (suc n) zero h = ap f (sym (add-zero i))
 listed-at f i (suc n) (suc k) h = listed-at f (suc i) n k (omega arith) ∙ rw (suc-add, add-suc)
-
--- two functions that differ at place j only
-pub listed-set : (f g : ℕ → ℕ) (n j : ℕ) → j < n → ((k : ℕ) → k ≢ j → g k ≡ f k) → listed g 0 n ≡ set (listed f 0 n) j (g j)
-listed-set f g n j h e = ext-getD 0 (listed g 0 n) (set (listed f 0 n) j (g j)) (simp (length-set, listed-length))
-    (λ i hi.
-    let hn : i < n = omega (arith, listed-length g 0 n) in
-    listed-at g 0 n i hn ∙ elim (ℕ-discrete i j) [
-      | yes s ↦ rw (s, getD-set-same (listed f 0 n) j (g j) 0 (omega (arith, listed-length f 0 n)), zero-add)
-      | no d ↦ rw (getD-set-other (listed f 0 n) j i (g j) 0 d, listed-at f 0 n i hn, zero-add, e i d)
-    ])
-
-pub sum-same : (f g : ℕ → ℕ) (n : ℕ) → ((k : ℕ) → k < n → g k ≡ f k) → sum f n ≡ sum g n
-unfolding sum
-sum-same f g zero e = refl
-sum-same f g (suc n) e = omega (arith, sum-same f g n (λ k h. e k (omega arith)), e n (omega arith))
 
 -- the differences of two sums
 pub sum-difference : (f g : ℕ → ℕ) (n : ℕ) → ((k : ℕ) → f k ≤ g k) → sum (λ k. g k - f k) n + sum f n ≡ sum g n

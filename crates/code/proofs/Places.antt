@@ -1,66 +1,23 @@
 -- Patterns place by place and part by part, and what the count of the next generation decides.
 use Prim.Native.Nat.{ℕ, zero, suc, _+_, _*_, _-_, _^_, _/_, _%_, _≤_, _<_}
-use mathlib.Core.Path.{_≡_, refl, ap}
-use mathlib.Core.List.{List, [], _∷_}
+use mathlib.Core.Path.{_≡_, refl}
+use mathlib.Core.List.{List, _∷_}
 use native.Mathlib.Omega.{arith}
-use native.Mathlib.Nat.{pow-zero, pow-suc, one-le-pow, div-lt-iff-lt-mul, mod-lt, div-add-mod'}
-use lib.ListN.{length, replicate}
+use native.Mathlib.Nat.{pow-suc, one-le-pow, div-lt-iff-lt-mul, mod-lt, div-add-mod'}
+use lib.ListN.{length}
 use Rattle.code.specs.Count.{choose, fewer}
 use Rattle.code.specs.Layout.{room}
-use Rattle.code.specs.Deal.{written, rank, digits, number, laid, deal, plain, plainly}
+use Rattle.code.specs.Deal.{number, laid, deal, plain, plainly}
 use Rattle.code.specs.Field.{told, pattern}
 use Rattle.code.proofs.Count.{fewer-grows}
-use Rattle.code.proofs.Deal.{laid-is, rank-below, deal-back}
-
--- a written place in front
-pub written-mark : (x : ℕ) (xs : List ℕ) → 0 < x → written (x ∷ xs) ≡ suc (written xs)
-unfolding written
-written-mark zero xs h = absurd (omega arith)
-written-mark (suc x) xs h = refl
-
-pub rank-mark : (x : ℕ) (xs : List ℕ) → 0 < x → rank (x ∷ xs) ≡ choose (length xs) (written (x ∷ xs)) + rank xs
-unfolding rank written
-rank-mark zero xs h = absurd (omega arith)
-rank-mark (suc x) xs h = refl
-
-pub rank-none : (xs : List ℕ) → written xs ≡ 0 → rank xs ≡ 0
-unfolding choose
-rank-none xs e = omega (arith, rw e at (rank-below xs))
-
--- the number that digits make when they are read on from one that was read before them
-abbrev pub digitsFrom : ℕ → List ℕ → ℕ → ℕ
-digitsFrom b xs d = d * b ^ written xs + digits b xs
+use Rattle.code.proofs.Deal.{laid-is, deal-back}
 
 abbrev pub plainFrom : ℕ → List ℕ → ℕ → ℕ
 plainFrom e xs x = x * e ^ length xs + plain e xs
 
-pub digits-blank : (b d : ℕ) → digitsFrom b (0 ∷ []) d ≡ d
-unfolding written digits
-digits-blank b d = rw pow-zero (omega arith)
-
-pub digits-mark : (b x d : ℕ) → 0 < x → digitsFrom b (x ∷ []) d ≡ d * b + (x - 1)
-unfolding written digits
-digits-mark b zero d h = absurd (omega arith)
-digits-mark b (suc x) d h = rw (pow-suc b 0, pow-zero) (omega arith)
-
-pub digits-from : (b x d : ℕ) (xs : List ℕ) → digitsFrom b xs (digitsFrom b (x ∷ []) d) ≡ digitsFrom b (x ∷ xs) d
-unfolding written digits
-digits-from b zero d xs = rw pow-zero (omega arith)
-digits-from b (suc x) d xs = rw (pow-suc b 0, pow-zero, pow-suc b (written xs)) (omega arith)
-
 pub plain-from : (e y x : ℕ) (xs : List ℕ) → plainFrom e xs (x * e + y) ≡ plainFrom e (y ∷ xs) x
 unfolding plain
 plain-from e y x xs = rw pow-suc (omega arith)
-
--- a number has at least the patterns with fewer written places before it
-pub number-past : (b first : ℕ) (xs : List ℕ) → fewer b (length xs) first (written xs) ≤ number b first xs
-unfolding number
-number-past b first xs = omega arith
-
-pub laid-blank : (b s r d : ℕ) → laid b s 0 r d ≡ replicate s 0
-unfolding laid
-laid-blank b zero r d = refl
-laid-blank b (suc s) r d = ap (λ (l : List ℕ). 0 ∷ l) (laid-blank b s r d)
 
 -- the pattern of a number whose k is known
 pub deal-laid : (b first s n k rest : ℕ) → 0 < b → first ≤ k → n ≡ fewer b s first k + rest → rest < choose s k * b ^ k →

@@ -146,11 +146,3 @@ record-stands bytes at serial m t v cells post b short e =
       stepped = step-inside bytes at short (omega arith) ∙ rw read (record-found bytes at xs (at + length front) (omega arith));
       part = rw (rest, take-append-seam cells post);
     }
-
--- the same, of a record between any bytes
-pub step-record : (pre : List ℕ) (serial m t v : ℕ) (cells post : List ℕ) → Below (2 ^ 63) (serial ∷ m ∷ t ∷ v ∷ []) →
-    length (pre ++ (recordOf serial m t v cells ++ post)) ≤ 65536 →
-    Stands (pre ++ (recordOf serial m t v cells ++ post)) (length pre) serial m t v cells
-step-record pre serial m t v cells post b short =
-    record-stands (pre ++ (recordOf serial m t v cells ++ post)) (length pre) serial m t v cells post b short
-    (drop-append-seam pre (recordOf serial m t v cells ++ post))

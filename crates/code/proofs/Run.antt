@@ -9,14 +9,13 @@ use lib.ListN.{length, getD, take, replicate, length-replicate, length-take, get
 use lib.Dec.{leb}
 use borrow.Author.Tests.{le-leb, lt-leb, lt-ltb, le-ltb}
 use Rattle.code.specs.Count.{choose, fewer}
-use Rattle.code.specs.Deal.{written, rank, digits, number}
+use Rattle.code.specs.Deal.{written, number}
 use Rattle.code.specs.Field.{zeros, base, start, carriers, reads, read, after, refused, wrote, writeAt, writeOn, write}
 use Rattle.code.specs.Run.{accepted, kept, run, total, opening}
 use Rattle.code.specs.Lists.{Below}
 use Rattle.code.proofs.Tests.{le-or-lt}
 use Rattle.code.proofs.Count.{fewer-grows}
-use Rattle.code.proofs.Conditions.{Layout, holds-length, holds-falls, head-most}
-use Rattle.code.proofs.Groups.{zeros-written}
+use Rattle.code.proofs.Conditions.{Layout, holds-length, holds-falls}
 use Rattle.code.proofs.Places.{told-before}
 use Rattle.code.proofs.Deal.{blank-number}
 use Rattle.code.proofs.Field.{Ready, After, after-is, write-blank, write-read}

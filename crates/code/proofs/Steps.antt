@@ -1,5 +1,5 @@
 -- The reply of a step, case by case, and what a reply tells of the step.
-use Prim.Native.Nat.{ℕ, _≤_, _<_}
+use Prim.Native.Nat.{ℕ, _<_}
 use mathlib.Core.Path.{_≡_, refl, ap, sym, _∙_}
 use mathlib.Core.Bool.{Bool, true, false, cond}
 use mathlib.Core.List.{List, [], _∷_, _++_}
@@ -7,11 +7,9 @@ use native.Mathlib.Omega.{arith}
 use lib.Dec.{ltb}
 use lib.ListN.{length}
 use Rattle.code.specs.declared.Record.{Record}
-use Rattle.code.specs.Calls.{refusal}
-use Rattle.code.specs.Dump.{Numbers, cut, numbers, readNumbers, Step, taken, ended, stopped, broken, recordAt, stepRefusal, found, stepOn, step, recordNumbers, outcome, stepValues, stepReply}
+use Rattle.code.specs.Dump.{Numbers, cut, numbers, readNumbers, Step, taken, ended, stopped, stepRefusal, found, stepOn, step, recordNumbers, outcome, stepValues, stepReply}
 use Rattle.code.proofs.Tests.{clash}
 use Rattle.code.proofs.LayoutCall.{refusal-some}
-use Rattle.code.proofs.Records.{step-oversize, step-inside, step-ended}
 
 -- a record is fixed by its numbers
 pub numbers-same : (r p : Record) (xs ys : List ℕ) → recordNumbers r ++ xs ≡ recordNumbers p ++ ys → (r ≡ p) × (xs ≡ ys)

@@ -6,7 +6,6 @@ use mathlib.Core.List.{List, [], _∷_, _++_}
 use native.Mathlib.Omega.{arith}
 use native.Mathlib.Nat.{sub-zero}
 use lib.ListN.{length, getD, drop, length-drop}
-use borrow.Author.Tests.{le-ltb, lt-ltb}
 use Rattle.code.specs.declared.Record.{Record}
 use Rattle.code.specs.Lists.{Below}
 use Rattle.code.specs.Dump.{Numeral, malformed, numeral, readSevens, Numbers, cut, numbers, preceded, readNumbers, recordOf, Step, taken, ended, stopped, recordBy, broken, recordAt, step, walkFrom, walk, onward}

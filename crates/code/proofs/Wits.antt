@@ -1,6 +1,5 @@
 -- A wit of bytes: its place, a byte stored, and bytes told by their wits. Only the laws of `place` look at the order.
-use mathlib.Core.Path.{_≡_, refl, _∙_}
-use mathlib.Core.Logic.{_≢_}
+use mathlib.Core.Path.{_≡_, _∙_}
 use mathlib.Core.List.{List}
 use Prim.Native.Nat.{ℕ, zero, suc, _+_, _*_, _^_, _/_, _%_, _≤_, _<_}
 use native.Mathlib.Omega.{arith}
@@ -14,16 +13,6 @@ pub place-lt : (o w : ℕ) → place o w < 8
 unfolding place
 place-lt zero w = omega arith
 place-lt (suc o) w = omega arith
-
-pub place-low : (o w : ℕ) → o ≢ 0 → place o w ≡ w % 8
-unfolding place
-place-low zero w ne = absurd (ne refl)
-place-low (suc o) w ne = refl
-
-pub place-inj : (o k w : ℕ) → k / 8 ≡ w / 8 → place o k ≡ place o w → k ≡ w
-unfolding place
-place-inj zero k w e p = omega arith
-place-inj (suc o) k w e p = omega arith
 
 -- the place of a place is the wit again, and a whole byte changes nothing
 pub place-place : (o w : ℕ) → place o (place o w) ≡ w % 8

@@ -8,21 +8,19 @@ use native.Mathlib.Omega.{arith}
 use native.Mathlib.Decide.{ℕ-discrete}
 use lib.ListN.{length, getD}
 use lib.Arith.{lt-of-le-ne}
-use lib.Dec.{leb, ltb, eqb}
+use lib.Dec.{leb, ltb}
 use borrow.Author.Tests.{le-leb, lt-leb, lt-ltb, le-ltb, eq-eqb, ne-eqb}
 use Rattle.code.specs.declared.Shape.{Shape}
 use Rattle.code.specs.Shape.{firstOf, rangesOf, orderOf, outside, misfit, granted, countsOf, widthOf}
-use Rattle.code.specs.Lists.{Upto}
 use Rattle.code.specs.Layout.{room}
-use Rattle.code.specs.Deal.{written}
-use Rattle.code.specs.Cells.{wit, opened, sound, stored, turned}
+use Rattle.code.specs.Cells.{opened, sound, stored, turned}
 use Rattle.code.specs.Field.{zeros, past, base, start, pattern, Reading, blank, reads, miscounted, beyond, read, erase, cleared, lay, after, Writing, refused, wrote, writeAt, writeOn, write}
 use Rattle.code.specs.Run.{accepted, kept}
 use Rattle.code.specs.Calls.{readCells, storing, writeCells, refusal, answer, passes, leaves, layoutRefusal, fieldRead, fieldWrite, unsound, unreadable, spent, writeRefusal, madeAt, writeReply, writeLeaves}
 use Rattle.code.proofs.Tests.{le-or-lt}
 use Rattle.code.proofs.Conditions.{holds-room}
-use Rattle.code.proofs.Groups.{upto-grows, blank-zeros, erase-blank}
-use Rattle.code.proofs.Field.{past-next, past-below, Ready, read-past, blank-read, pictured, write-read, write-taken}
+use Rattle.code.proofs.Groups.{blank-zeros, erase-blank}
+use Rattle.code.proofs.Field.{past-next, past-below, Ready, read-past, blank-read, write-read, write-taken}
 use Rattle.code.proofs.Bytes.{storing-accepted, triedCells}
 use Rattle.code.proofs.LayoutCall.{refusal-some, refused-early, passed-early, range-at, within, counts-length, is-layout}
 
@@ -92,16 +90,6 @@ module _ (s : Shape) (ok : layoutRefusal s 256 ≡ []) where
     holds-room full (firstOf s) (countsOf s) (rangesOf s) n (is-layout s ok .holds)
         (omega (arith, counts-length s ok)),
   )
-
-  pub pattern-small : (n x : ℕ) → n < s .t → x < s .v → Upto full (patternAt n x)
-  unfolding base
-  pattern-small n x l h =
-      let p = pictured full (firstOf s) (countsOf s) (rangesOf s) (is-layout s ok) n x (omega (arith, counts-length s ok)) (omega (arith, range-at s n l)) in
-      upto-grows (base full n) full (base-most full n) (patternAt n x) (p .small)
-    where
-      base-most : (e n : ℕ) → base e n ≤ e
-      base-most e zero = omega arith
-      base-most e (suc n) = omega arith
 
   -- the spare groups are those above the generation's count; blank groups have none
   pub after-erased : (n x : ℕ) (gs : List ℕ) → Ready (countsOf s) n gs → length gs ≡ widthOf s →

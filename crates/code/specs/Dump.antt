@@ -4,7 +4,7 @@ use Prim.Native.Char.{code}
 use Prim.Native.String.{String, [] as nothing, _∷_ as _before_}
 use mathlib.Core.Bool.{Bool, true, cond, _&&_}
 use mathlib.Core.List.{List, [], _∷_, _++_}
-use lib.Dec.{leb, ltb, eqb}
+use lib.Dec.{ltb, eqb}
 use lib.ListN.{length, getD, take, drop}
 use Rattle.code.specs.declared.Record.{Record}
 use Rattle.code.specs.Shape.{shaped, outside, misfit, countsOf}

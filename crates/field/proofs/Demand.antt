@@ -5,7 +5,7 @@ use mathlib.Core.Bool.{Bool, true, false, true≢false}
 use mathlib.Core.List.{List, [], _∷_}
 use native.Mathlib.Omega.{arith}
 use native.Mathlib.Nat.{le-refl}
-use lib.ListN.{length, getD, take, replicate, length-replicate, getD-replicate}
+use lib.ListN.{length, getD, take, length-replicate, getD-replicate}
 use lib.Dec.{leb}
 use borrow.Author.Tests.{ne-eqb}
 use Rattle.code.specs.declared.Shape.{Shape}

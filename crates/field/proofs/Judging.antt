@@ -1,20 +1,20 @@
 -- What is read, from what the calls between have found.
 use mathlib.Core.Path.{_≡_, refl, sym, ap, _∙_}
 use mathlib.Core.Logic.{_≢_, inl, inr}
-use mathlib.Core.Bool.{Bool, true, false, not}
-use mathlib.Core.List.{List, [], _∷_, _++_}
-use Prim.Native.Nat.{ℕ, zero, suc, _+_, _*_, _-_, _^_, _≤_, _<_, min}
+use mathlib.Core.Bool.{Bool, true, not}
+use mathlib.Core.List.{List, [], _∷_}
+use Prim.Native.Nat.{ℕ, zero, suc, _+_, _*_, _-_, _^_, _≤_, _<_}
 use native.Mathlib.Omega.{arith}
 use native.Mathlib.Numerals.{add-one}
 use lib.ListN.{length, getD, take, replicate}
 use lib.Seq.{take-at}
 use lib.Arith.{lt-of-le-ne}
-use lib.Pow.{pow-pos, pow-mono}
-use borrow.Author.Tests.{not-true, not-false}
+use lib.Pow.{pow-mono}
+use borrow.Author.Tests.{not-true}
 use Rattle.code.specs.declared.Shape.{Shape}
 use Rattle.code.specs.Shape.{firstOf, rangesOf, orderOf, countsOf, widthOf}
 use Rattle.code.specs.Count.{fewer}
-use Rattle.code.specs.Deal.{written, rank, digits, number, plain}
+use Rattle.code.specs.Deal.{written, number, plain}
 use Rattle.code.specs.Chosen.{ranked, patternMost}
 use Rattle.code.specs.Cells.{wit, opened, sound}
 use Rattle.code.specs.Field as Field
@@ -23,21 +23,20 @@ use Rattle.code.proofs.Tests.{le-or-lt}
 use Rattle.code.proofs.Deal.{written-le}
 use Rattle.code.proofs.Chosen.{rank-chosen, digits-chosen}
 use Rattle.code.proofs.Places.{told-last, told-before}
-use Rattle.code.proofs.Groups.{zeros-written, zeros-blank, blank-zeros, unerased-zeros, zeros-padded, unerased-padded}
+use Rattle.code.proofs.Groups.{zeros-written, zeros-blank, unerased-zeros, zeros-padded, unerased-padded}
 use Rattle.code.proofs.Field.{past-next, read-blank, read-judged, judged-reads, judged-beyond, judged-miscounted}
 use Rattle.code.proofs.Cells.{groups-length}
 use Rattle.code.proofs.LayoutCall.{range-at}
 use Rattle.code.proofs.ReadCall.{read-no-layout, read-unsound, read-unread, read-found}
 use Rattle.counting.specs.Cap.{sat}
 use Rattle.words.specs.Words.{wordGroups, frontGroups, frontAt}
-use Rattle.words.specs.Marks.{Viewed, Ends, Fronted, Listed, Gathered, Pickable}
+use Rattle.words.specs.Marks.{Viewed, Fronted, Listed, Gathered, Pickable}
 use Rattle.words.specs.declared.Seen.{Seen}
 use Rattle.words.proofs.Joined.{seen-pickable, front-pickable}
 use Rattle.cells.specs.Cells.{Loadable, Loaded}
 use Rattle.layout.specs.Plan.{Granted}
-use Rattle.layout.proofs.Planning.{plan-refused, plan-granted}
-use Rattle.field.specs.Answers.{foundOf, answerOf, fieldGroups, Holds, Looked, Close, Ranged}
-use Rattle.field.specs.declared.Found.{Found}
+use Rattle.layout.proofs.Planning.{plan-refused}
+use Rattle.field.specs.Answers.{answerOf, fieldGroups, Holds, Looked, Close, Ranged}
 
 -- The number that places tell, from their labels and values, and from their digits.
 pub pattern-told : (b start s : ℕ) (xs at less : List ℕ) (k r : ℕ) → Gathered xs at less k → s ≡ length xs →

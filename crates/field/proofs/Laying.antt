@@ -1,27 +1,25 @@
 -- What is written, from what the calls between have found.
 use mathlib.Core.Path.{_≡_, refl, sym, ap, _∙_}
-use mathlib.Core.Logic.{_≢_, inl, inr}
-use mathlib.Core.List.{List, [], _∷_, _++_}
+use mathlib.Core.List.{List, _++_}
 use Prim.Native.Nat.{ℕ, zero, suc, _+_, _*_, _-_, _^_, _≤_, _<_}
 use native.Mathlib.Omega.{arith}
 use lib.ListN.{length, getD, take, replicate}
 use Rattle.code.specs.declared.Shape.{Shape}
-use Rattle.code.specs.Shape.{firstOf, rangesOf, countsOf, widthOf}
+use Rattle.code.specs.Shape.{firstOf, countsOf, widthOf}
 use Rattle.code.specs.Lists.{Upto}
 use Rattle.code.specs.Count.{fewer}
-use Rattle.code.specs.Layout.{room}
-use Rattle.code.specs.Deal.{written, deal, plainly}
+use Rattle.code.specs.Deal.{deal, plainly}
 use Rattle.code.specs.Field as Field
 use Rattle.code.proofs.Deal.{deal-is, plainly-is}
 use Rattle.code.proofs.Groups.{upto-grows, erase-zeros, erase-length, zeros-padded, erase-padded, lay-padded, lay-length}
 use Rattle.code.proofs.Field as Code
-use Rattle.code.proofs.WriteCall.{room-for, pattern-small, after-erased}
+use Rattle.code.proofs.WriteCall.{after-erased}
 use Rattle.words.specs.Words.{allGroups, wordGroups, frontGroups}
 use Rattle.cells.proofs.Whole.{field-front}
-use Rattle.words.specs.Marks.{ZeroMarked, Erased, Layered}
+use Rattle.words.specs.Marks.{Erased, Layered}
 use Rattle.layout.specs.Plan.{Granted}
 use Rattle.field.specs.Answers.{fieldGroups, Holds, Ready, Carries}
-use Rattle.field.proofs.Judging.{full, same-zeros}
+use Rattle.field.proofs.Judging.{full}
 
 -- a dealt pattern has so many places, of values up to b
 pub dealt-is : (b start s x : ℕ) → 0 < b → x < fewer b s start (suc s) → (length (deal b start s x) ≡ s) × Upto b (deal b start s x)

@@ -1,19 +1,18 @@
 -- The replies of write and the cells that it leaves, from what its calls have found.
-use mathlib.Core.Path.{_≡_, refl, sym, ap, _∙_}
+use mathlib.Core.Path.{_≡_, refl, sym, _∙_}
 use mathlib.Core.Logic.{_≢_}
-use mathlib.Core.Bool.{Bool, true, false, cond, not}
+use mathlib.Core.Bool.{Bool, true, false, not}
 use mathlib.Core.List.{List, [], _∷_}
 use Prim.Native.Nat.{ℕ, zero, suc, _+_, _-_, _^_, _≤_, _<_}
 use native.Mathlib.Omega.{arith}
 use native.Mathlib.Decide.{ℕ-discrete}
 use native.Mathlib.Numerals.{add-one}
 use lib.Arith.{lt-of-le-ne}
-use lib.Dec.{eqb}
 use lib.ListN.{length, getD}
 use borrow.Author.Tests.{not-true, eq-eqb, ne-eqb}
 use Rattle.code.specs.declared.Shape.{Shape}
 use Rattle.code.specs.Shape.{firstOf, rangesOf, orderOf, countsOf, widthOf}
-use Rattle.code.specs.Cells.{opened, sound}
+use Rattle.code.specs.Cells.{sound}
 use Rattle.code.specs.Field as Field
 use Rattle.code.specs.Calls.{readCells, fieldRead, unreadable, spent, writeReply, writeLeaves, filled, layoutFields, layoutReply}
 use Rattle.code.proofs.Tests.{clash}

@@ -28,12 +28,6 @@ front-more m i ws l = rw (add-one i, take-suc ws i 0 l, all-snoc m (wordGroups m
 pub front-set : (m i x : ℕ) (ws : List ℕ) → i < length ws → frontGroups m (i + 1) (set ws i x) ≡ frontGroups m i ws ++ groupsOf m (wordGroups m) x
 front-set m i x ws l = rw (add-one i, take-suc-set ws i x l, all-snoc m (wordGroups m) (take i ws) x)
 
-pub at-more : (m i : ℕ) (os ws : List ℕ) → i < length os → i < length ws
-    → frontAt m (i + 1) os ws ≡ frontAt m i os ws ++ groupsAt m (wordGroups m) (getD os i 0) (getD ws i 0)
-at-more m i os ws k l =
-    rw (add-one i, take-suc os i 0 k, take-suc ws i 0 l)
-    (at-snoc m (wordGroups m) (take i os) (take i ws) (getD os i 0) (getD ws i 0) (length-take-le i os (omega arith) ∙ sym (length-take-le i ws (omega arith))))
-
 pub at-set : (m i o : ℕ) (os ws : List ℕ) → i < length os → i < length ws
     → frontAt m (i + 1) (set os i o) ws ≡ frontAt m i os ws ++ groupsAt m (wordGroups m) o (getD ws i 0)
 at-set m i o os ws k l =

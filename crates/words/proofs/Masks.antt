@@ -19,10 +19,6 @@ unfolding groupsOf
 groups-long m zero w = refl
 groups-long m (suc n) w = ap suc (groups-long m n w)
 
-flag-le : (b : Bool) → cond b 1 0 ≤ 1
-flag-le true = omega arith
-flag-le false = omega arith
-
 -- a group more is twice the room at least
 pub twice : (m n : ℕ) → 0 < m → 2 ^ (m * n) + 2 ^ (m * n) ≤ 2 ^ (m * suc n)
 twice m n pos = omega (arith, pow-suc 2 (m * n), pow-mono {i = suc (m * n)} {j = m * suc n} (omega (arith, mul-suc m n)))

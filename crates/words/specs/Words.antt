@@ -1,10 +1,9 @@
 -- Groups of m bits in words. A word holds n groups, the leftmost in its highest bits; its lowest bit is the last bit of its last group.
-use Prim.Native.Nat.{ℕ, zero, suc, _+_, _*_, _-_, _^_, _/_, _%_, _≤_, _<_}
-use mathlib.Core.Path.{_≡_}
-use mathlib.Core.Bool.{Bool, cond, not}
+use Prim.Native.Nat.{ℕ, zero, suc, _+_, _*_, _^_, _/_, _%_, _<_}
+use mathlib.Core.Bool.{cond}
 use mathlib.Core.List.{List, [], _∷_, _++_}
 use lib.Dec.{eqb}
-use lib.ListN.{length, getD, take}
+use lib.ListN.{getD, take}
 
 -- the last n groups of a word, leftmost first
 unfoldable pub groupsOf : ℕ → ℕ → ℕ → List ℕ

@@ -1,5 +1,4 @@
 -- `field::answer` meets its contract. Assumes nothing.
-use native.Mathlib.Omega.{arith}
 use borrow.Author.Needs.{needs}
 use Rattle.field.proofs.answer.Statement.{statement}
 use Rattle.field.proofs.answer.Tie as tie

@@ -1,5 +1,4 @@
 -- `field::judge` meets its contract. Assumes nothing.
-use native.Mathlib.Omega.{arith}
 use borrow.Author.Needs.{needs}
 use mathlib.Core.List.{[]}
 use Rattle.field.proofs.Judging.{past-asks, reads-blank, reads-at, zeros-left, carried, reads-miscounted, later-marked}

@@ -1,5 +1,4 @@
 -- `field::lay_dealt` meets its contract. Assumes nothing.
-use native.Mathlib.Omega.{arith}
 use borrow.Author.Needs.{needs}
 use Prim.Native.Nat.{_-_, _^_}
 use Rattle.code.specs.Deal.{deal}

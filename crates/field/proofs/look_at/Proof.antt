@@ -1,6 +1,5 @@
 -- `field::look_at` meets its contract. Assumes nothing.
 use borrow.Author.Needs.{needs}
-use mathlib.Core.Path.{refl}
 use Rattle.field.proofs.Judging.{loadable, loaded-holds, looked}
 use Rattle.field.proofs.look_at.Statement.{statement}
 use Rattle.field.proofs.look_at.Tie as tie

@@ -1,5 +1,4 @@
 -- `field::take_aim` meets its contract. Assumes nothing.
-use native.Mathlib.Omega.{arith}
 use borrow.Author.Needs.{needs}
 use borrow.Author.Tests.{eq-eqb, ne-eqb}
 use Rattle.field.proofs.take_aim.Statement.{statement}

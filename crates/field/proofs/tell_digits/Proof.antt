@@ -1,5 +1,4 @@
 -- `field::tell_digits` meets its contract. Assumes nothing.
-use native.Mathlib.Omega.{arith}
 use borrow.Author.Needs.{needs}
 use Rattle.field.proofs.Judging.{digits-told}
 use Rattle.field.proofs.tell_digits.Statement.{statement}

@@ -1,5 +1,4 @@
 -- `field::write_at` meets its contract. Assumes nothing.
-use native.Mathlib.Omega.{arith}
 use borrow.Author.Needs.{needs}
 use mathlib.Core.Path.{refl}
 use Rattle.cells.proofs.Sizes.{storable}

@@ -1,5 +1,4 @@
 -- `layout::first` meets its contract. Assumes nothing.
-use native.Mathlib.Omega.{arith}
 use Rattle.code.specs.Shape.{firstOf}
 use borrow.Author.Needs.{needs}
 use Rattle.layout.proofs.first.Statement.{statement}

@@ -1,5 +1,4 @@
 -- `layout::order` meets its contract. Assumes nothing.
-use native.Mathlib.Omega.{arith}
 use Rattle.code.specs.Shape.{orderOf}
 use borrow.Author.Needs.{needs}
 use Rattle.layout.proofs.order.Statement.{statement}

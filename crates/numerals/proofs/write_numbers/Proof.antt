@@ -8,7 +8,7 @@ use lib.ListN.{length, take}
 use lib.Seq.{take-length}
 use Rattle.code.specs.Dump.{numeralsOf}
 use Rattle.storing.specs.Put.{Put}
-use Rattle.storing.proofs.Put.{put-none, put-then, put-length}
+use Rattle.storing.proofs.Put.{put-then, put-length}
 use Rattle.code.proofs.Records.{below-at, numerals-next, length-next, numerals-part}
 use Rattle.numerals.proofs.write_numbers.Statement.{statement}
 use Rattle.numerals.proofs.write_numbers.Tie as tie

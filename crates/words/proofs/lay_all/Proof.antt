@@ -1,6 +1,5 @@
 -- `words::lay_all` meets its contract. Assumes nothing.
 use Rattle.words.proofs.Digits.{Digits, digits-none, digits-room, digits-fits, digits-more, digits-all}
-use Prim.Native.Nat.{_-_}
 use native.Mathlib.Omega.{arith}
 use borrow.Author.Needs.{needs}
 use Rattle.words.proofs.lay_all.Statement.{statement}

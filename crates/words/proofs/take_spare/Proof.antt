@@ -1,7 +1,6 @@
 -- `words::take_spare` meets its contract. Assumes nothing.
 use Rattle.words.proofs.Highest.{stripped-none}
 use Rattle.words.specs.Marks.{stripped}
-use Prim.Native.Nat.{_-_}
 use mathlib.Core.Path.{sym}
 use native.Mathlib.Omega.{arith}
 use borrow.Author.Needs.{needs}
