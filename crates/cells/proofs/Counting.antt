@@ -11,7 +11,7 @@ use lib.ListN.{length}
 use Rattle.code.specs.Cells.{wit, value, sum, turned}
 use Rattle.code.proofs.Bits.{or-snoc}
 use Rattle.code.proofs.Wits.{wit-lt, wit-past}
-use Rattle.cells.specs.Cells.{Put}
+use Rattle.cells.specs.Cells.{PutWits}
 
 pub or-above : (a b : ℕ) → b ≤ bitOr a b
 or-above a b = omega (arith, or-add-and a b, and-le-l a b)
@@ -55,7 +55,7 @@ sum-window f n p d end before behind =
     let c : n + (p + d) ≡ p + d + n = omega arith in
     omega (arith, a, b, ap (sum f) c, sum-split f p d, sum-none f p before)
 
-pub put-turned : {o : ℕ} {bs cs : List ℕ} {p n x : ℕ} → Put o bs cs p n x
+pub put-turned : {o : ℕ} {bs cs : List ℕ} {p n x : ℕ} → PutWits o bs cs p n x
     → turned o bs cs ≡ ones (bitOr (value (wit o cs) p n) (value (wit o bs) p n) - value (wit o bs) p n)
 unfolding turned
 put-turned {o} {bs} {cs} {p} {n} P =

@@ -13,11 +13,11 @@ use Rattle.code.specs.Cells.{wit, value}
 use Rattle.code.proofs.Wits.{wit-lt, wit-past}
 use Rattle.code.proofs.Numbers.{value-same, value-none, value-lt}
 use Rattle.code.proofs.Parts.{value-front}
-use Rattle.cells.specs.Cells.{octet, Put, End}
+use Rattle.cells.specs.Cells.{octet, PutWits, End}
 use Rattle.cells.proofs.Octets.{octet-value, octet-twice}
 use Rattle.cells.proofs.Values.{value-split, value-tells}
 
-pub put-byte : (o : ℕ) (bs : List ℕ) (i x y : ℕ) → i < length bs → y ≡ octet o (x % 256) → Put o bs (set bs i y) (8 * i) 8 x
+pub put-byte : (o : ℕ) (bs : List ℕ) (i x y : ℕ) → i < length bs → y ≡ octet o (x % 256) → PutWits o bs (set bs i y) (8 * i) 8 x
 unfolding wit
 put-byte o bs i x y l e = record {
   long = length-set bs i y;
@@ -27,7 +27,7 @@ put-byte o bs i x y l e = record {
 }
 
 -- a wits, and b wits behind them
-pub put-join : {o : ℕ} {bs cs ds : List ℕ} {p a b x : ℕ} → Put o bs cs p a (x / 2 ^ b) → Put o cs ds (p + a) b x → Put o bs ds p (a + b) x
+pub put-join : {o : ℕ} {bs cs ds : List ℕ} {p a b x : ℕ} → PutWits o bs cs p a (x / 2 ^ b) → PutWits o cs ds (p + a) b x → PutWits o bs ds p (a + b) x
 put-join {o} {bs} {cs} {ds} {p} {a} {b} {x} P Q =
     let same : value (wit o ds) p a ≡ value (wit o cs) p a = value-same (wit o ds) (wit o cs) p a (λ i l. Q .front (p + i) (omega arith)) in
     record {
@@ -38,14 +38,14 @@ put-join {o} {bs} {cs} {ds} {p} {a} {b} {x} P Q =
     }
 
 -- a bytes, and b bytes behind them
-pub put-bytes : {o : ℕ} {bs cs ds : List ℕ} (i a b x : ℕ) → Put o bs cs (8 * i) (8 * a) (x / 2 ^ (8 * b)) → Put o cs ds (8 * (i + a)) (8 * b) x
-    → Put o bs ds (8 * i) (8 * (a + b)) x
+pub put-bytes : {o : ℕ} {bs cs ds : List ℕ} (i a b x : ℕ) → PutWits o bs cs (8 * i) (8 * a) (x / 2 ^ (8 * b)) → PutWits o cs ds (8 * (i + a)) (8 * b) x
+    → PutWits o bs ds (8 * i) (8 * (a + b)) x
 put-bytes i a b x P Q = rw (mul-add 8 a b) (put-join {b = 8 * b} P (rw (mul-add 8 i a) at Q))
 
 -- the first bytes of x, to byte i, are put from byte `at` on
 pub record Putting (o : ℕ) (bs cs : List ℕ) (at i x : ℕ) : Type 0 where
   pub from : at ≤ i
-  pub done : Put o bs cs (8 * at) (8 * (i - at)) (x / 2 ^ (8 * (at + 8 - i)))
+  pub done : PutWits o bs cs (8 * at) (8 * (i - at)) (x / 2 ^ (8 * (at + 8 - i)))
 
 pub putting-none : (o : ℕ) (bs : List ℕ) (at x : ℕ) → x < 2 ^ 64 → Putting o bs bs at at x
 unfolding value
@@ -54,7 +54,7 @@ putting-none o bs at x h =
     record { from = omega arith; done = rw e (record { long = refl; made = omega arith; front = λ k l. refl; rest = λ k l. refl }) }
 
 pub putting-more : {o : ℕ} {bs cs ds : List ℕ} {at i x : ℕ} (y : ℕ) → Putting o bs cs at i x → i < at + 8 → y ≡ x / 2 ^ (8 * (at + 7 - i))
-    → Put o cs ds (8 * i) 8 y → Putting o bs ds at (i + 1) x
+    → PutWits o cs ds (8 * i) 8 y → Putting o bs ds at (i + 1) x
 putting-more {o} {bs} {cs} {ds} {at} {i} {x} y T l e P =
     let n : ℕ = 8 * (at + 7 - i) in
     let p : 8 * at + 8 * (i - at) ≡ 8 * i = omega (arith, T .from) in
@@ -85,7 +85,7 @@ module _ (o : ℕ) (bs cs : List ℕ) (at x : ℕ) (b : x < 2 ^ 64) (z : x % 2 ^
       let made : value g (8 * at) (64 - k + k) ≡ x = rw (value-split g (8 * at) (64 - k) k, v, none, ← y) (split x k) in
       rw p at made ∙ sym (mod-eq-of-lt b)
 
-  pub putting-all : {i : ℕ} → Putting o bs cs at i x → End (length bs) at i → Put o bs cs (8 * at) 64 x
+  pub putting-all : {i : ℕ} → Putting o bs cs at i x → End (length bs) at i → PutWits o bs cs (8 * at) 64 x
   putting-all {i} T E =
       let k : ℕ = 8 * (at + 8 - i) in
       let m : ℕ = 8 * (i - at) in
@@ -105,7 +105,7 @@ module _ (o : ℕ) (bs cs : List ℕ) (at x : ℕ) (b : x < 2 ^ 64) (z : x % 2 ^
 
   -- the last bytes, put with the bytes before them as the last eight
   pub put-last : (y n : ℕ) → at < length bs → length bs < at + 8 → 8 ≤ length bs → n ≡ 8 * (length bs - at) → y ≡ value (wit o bs) (8 * (length bs - 8)) 64
-      → Put o bs cs (8 * (length bs - 8)) 64 (bitOr (y / 2 ^ n * 2 ^ n % 2 ^ 64) (x / 2 ^ (64 - n))) → Put o bs cs (8 * at) 64 x
+      → PutWits o bs cs (8 * (length bs - 8)) 64 (bitOr (y / 2 ^ n * 2 ^ n % 2 ^ 64) (x / 2 ^ (64 - n))) → PutWits o bs cs (8 * at) 64 x
   put-last y n l u s e v P =
       let f = wit o bs in
       let g = wit o cs in

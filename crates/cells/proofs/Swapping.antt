@@ -15,7 +15,7 @@ use Rattle.code.proofs.Tests.{le-or-lt}
 use Rattle.code.proofs.Wits.{wit-lt, wit-past}
 use Rattle.code.proofs.Numbers.{value-none, value-lt}
 use Rattle.code.proofs.Parts.{value-front}
-use Rattle.cells.specs.Cells.{Put, Roomy, blended, Swappable, Swapped}
+use Rattle.cells.specs.Cells.{PutWits, Roomy, blended, Swappable, Swapped}
 use Rattle.cells.proofs.Values.{value-split, value-tells, shift-left}
 use Rattle.cells.proofs.Counting.{put-turned}
 
@@ -59,7 +59,7 @@ module _ (o : ℕ) (bs cs : List ℕ) (at size d w old : ℕ) (S : Swappable bs 
       let z : old % 2 ^ e ≡ 0 = rw q (mul-mod-left (value f (8 * at) (64 - e)) (2 ^ e)) in
       record { inside = S .inside; short = S .short; none = blended-none w d old (64 - 8 * size) e (omega (arith, S .over, S .most)) z }
 
-  swap-done : Put o bs cs (8 * at) 64 (blended w d old (64 - 8 * size)) → Put o bs cs (8 * at) (8 * size) (kept w d)
+  swap-done : PutWits o bs cs (8 * at) 64 (blended w d old (64 - 8 * size)) → PutWits o bs cs (8 * at) (8 * size) (kept w d)
   swap-done P =
       let f = wit o bs in
       let g = wit o cs in
@@ -83,7 +83,7 @@ module _ (o : ℕ) (bs cs : List ℕ) (at size d w old : ℕ) (S : Swappable bs 
         ];
       }
 
-  pub swap-is : (x r : ℕ) → x ≡ blended w d old (64 - 8 * size) → Put o bs cs (8 * at) 64 x → (r ≡ ones (bitOr x old - old)) × (r ≤ 64)
+  pub swap-is : (x r : ℕ) → x ≡ blended w d old (64 - 8 * size) → PutWits o bs cs (8 * at) 64 x → (r ≡ ones (bitOr x old - old)) × (r ≤ 64)
       → Swapped o bs cs (8 * at) (8 * size) d w r
   swap-is x r e P n =
       let c : ℕ = 64 - 8 * size in
@@ -93,7 +93,7 @@ module _ (o : ℕ) (bs cs : List ℕ) (at size d w old : ℕ) (S : Swappable bs 
       record { done = swap-done (rw e at P); count = n .0 ∙ sym (put-turned P ∙ rw (P .made, mod-eq-of-lt small, ← is)); few = n .1 }
 
 -- eight bytes
-pub swap-all : (bs cs : List ℕ) (at w old r : ℕ) → w < 2 ^ 64 → old ≡ value (wit 0 bs) (8 * at) 64 → Put 0 bs cs (8 * at) 64 w
+pub swap-all : (bs cs : List ℕ) (at w old r : ℕ) → w < 2 ^ 64 → old ≡ value (wit 0 bs) (8 * at) 64 → PutWits 0 bs cs (8 * at) 64 w
     → (r ≡ ones (bitOr w old - old)) × (r ≤ 64)
     → Swapped 0 bs cs (8 * at) 64 0 w r
 swap-all bs cs at w old r b is P n =

@@ -27,7 +27,7 @@ pub record Start (n at start : ℕ) : Type 0 where
   pub last : start < at → start + 8 ≡ n
 
 -- the n wits from wit p on are the last n bits of x now, and the others are as they were
-pub record Put (order : ℕ) (before after : List ℕ) (p n x : ℕ) : Type 0 where
+pub record PutWits (order : ℕ) (before after : List ℕ) (p n x : ℕ) : Type 0 where
   pub long : length after ≡ length before
   pub made : value (wit order after) p n ≡ x % 2 ^ n
   pub front : (k : ℕ) → k < p → wit order after k ≡ wit order before k
@@ -79,7 +79,7 @@ pub record Swappable (bytes : List ℕ) (at size d : ℕ) : Type 0 where
 
 -- the n wits from wit p on are those of x, without its last d bits and what is above, and r wits were turned from 0 to 1
 pub record Swapped (order : ℕ) (before after : List ℕ) (p n d x r : ℕ) : Type 0 where
-  pub done : Put order before after p n (x / 2 ^ d * 2 ^ d)
+  pub done : PutWits order before after p n (x / 2 ^ d * 2 ^ d)
   pub count : r ≡ turned order before after
   pub few : r ≤ 64
 

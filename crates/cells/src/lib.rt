@@ -185,14 +185,14 @@ pub fn load(cells: &[u8], order: u64, m: usize, h: usize, words: &mut [u64; 16])
 // Puts the last byte of x at byte i; and the last two, four and eight from byte i on, with the high bit first. Eight are compiled to one store.
 fn put_one(cells: &mut [u8], order: u64, i: usize, x: u64)
     requires { ⌜ i < length (now cells) ⌝ }
-    ensures { λ r. ⌜ Cells.Put order (now (cells .entry)) (now (cells .exit)) (8 * i) 8 x ⌝ }
+    ensures { λ r. ⌜ Cells.PutWits order (now (cells .entry)) (now (cells .exit)) (8 * i) 8 x ⌝ }
 {
     cells[i] = octet(order, x % 256) as u8;
 }
 
 fn put_two(cells: &mut [u8], i: usize, x: u64)
     requires { ⌜ (i + 2 ≤ length (now cells)) × (length (now cells) ≤ 128) ⌝ }
-    ensures { λ r. ⌜ Cells.Put 0 (now (cells .entry)) (now (cells .exit)) (8 * i) 16 x ⌝ }
+    ensures { λ r. ⌜ Cells.PutWits 0 (now (cells .entry)) (now (cells .exit)) (8 * i) 16 x ⌝ }
 {
     put_one(cells, 0, i, x >> 8);
     put_one(cells, 0, i + 1, x);
@@ -200,7 +200,7 @@ fn put_two(cells: &mut [u8], i: usize, x: u64)
 
 fn put_four(cells: &mut [u8], i: usize, x: u64)
     requires { ⌜ (i + 4 ≤ length (now cells)) × (length (now cells) ≤ 128) ⌝ }
-    ensures { λ r. ⌜ Cells.Put 0 (now (cells .entry)) (now (cells .exit)) (8 * i) 32 x ⌝ }
+    ensures { λ r. ⌜ Cells.PutWits 0 (now (cells .entry)) (now (cells .exit)) (8 * i) 32 x ⌝ }
 {
     put_two(cells, i, x >> 16);
     put_two(cells, i + 2, x);
@@ -208,7 +208,7 @@ fn put_four(cells: &mut [u8], i: usize, x: u64)
 
 fn put_eight(cells: &mut [u8], i: usize, x: u64)
     requires { ⌜ (i + 8 ≤ length (now cells)) × (length (now cells) ≤ 128) ⌝ }
-    ensures { λ r. ⌜ Cells.Put 0 (now (cells .entry)) (now (cells .exit)) (8 * i) 64 x ⌝ }
+    ensures { λ r. ⌜ Cells.PutWits 0 (now (cells .entry)) (now (cells .exit)) (8 * i) 64 x ⌝ }
 {
     put_four(cells, i, x >> 32);
     put_four(cells, i + 4, x);
@@ -217,7 +217,7 @@ fn put_eight(cells: &mut [u8], i: usize, x: u64)
 // Puts x, eight bytes, from byte `at` on, as far as there are bytes, one by one.
 fn put_part(cells: &mut [u8], order: u64, at: usize, x: u64)
     requires { ⌜ Cells.Roomy (now cells) at x ⌝ }
-    ensures { λ r. ⌜ Cells.Put order (now (cells .entry)) (now (cells .exit)) (8 * at) 64 x ⌝ }
+    ensures { λ r. ⌜ Cells.PutWits order (now (cells .entry)) (now (cells .exit)) (8 * at) 64 x ⌝ }
 {
     let end = end_of(cells, at);
     let mut i = at;
@@ -230,7 +230,7 @@ fn put_part(cells: &mut [u8], order: u64, at: usize, x: u64)
 // The same at the end of the cells: the last bytes are put as part of the last eight.
 fn put_last(cells: &mut [u8], at: usize, x: u64)
     requires { ⌜ (Cells.Roomy (now cells) at x) × (8 ≤ length (now cells)) × (length (now cells) < at + 8) ⌝ }
-    ensures { λ r. ⌜ Cells.Put 0 (now (cells .entry)) (now (cells .exit)) (8 * at) 64 x ⌝ }
+    ensures { λ r. ⌜ Cells.PutWits 0 (now (cells .entry)) (now (cells .exit)) (8 * at) 64 x ⌝ }
 {
     let start = cells.len() - 8;
     let n = 8 * (cells.len() - at);
@@ -241,7 +241,7 @@ fn put_last(cells: &mut [u8], at: usize, x: u64)
 // The same for any part of the cells, put at once where the cells have eight bytes.
 fn put_ahead(cells: &mut [u8], order: u64, at: usize, x: u64)
     requires { ⌜ Cells.Roomy (now cells) at x ⌝ }
-    ensures { λ r. ⌜ Cells.Put order (now (cells .entry)) (now (cells .exit)) (8 * at) 64 x ⌝ }
+    ensures { λ r. ⌜ Cells.PutWits order (now (cells .entry)) (now (cells .exit)) (8 * at) 64 x ⌝ }
 {
     if order == 0 {
         if at + 8 <= cells.len() {

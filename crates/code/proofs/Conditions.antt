@@ -6,7 +6,7 @@ use native.Mathlib.Omega.{arith}
 use lib.ListN.{length, getD}
 use Rattle.code.specs.Count.{fewer}
 use Rattle.code.specs.Layout.{Meets, room}
-use Rattle.code.specs.Field.{base, start}
+use Rattle.code.specs.Field.{base, fewest}
 
 -- each count is above the next, 0 after the last, and has room for its range; the first of the list has b values from `first` places on, the others e − 1
 -- from 1 on
@@ -53,8 +53,8 @@ later-room e (h ∷ hs) (v ∷ vs) zero m l = m .1
 later-room e (h ∷ hs) (v ∷ vs) (suc n) m l = later-room e hs vs n (m .2) (omega arith)
 
 pub holds-room : (e first : ℕ) (hs vs : List ℕ) (n : ℕ) → Holds e e first hs vs → n < length hs →
-    getD vs n 0 ≤ room e (base e n) (start first n) (getD hs n 0) (getD hs (suc n) 0)
-unfolding Holds base start
+    getD vs n 0 ≤ room e (base e n) (fewest first n) (getD hs n 0) (getD hs (suc n) 0)
+unfolding Holds base fewest
 holds-room e first [] vs n m l = absurd (omega arith)
 holds-room e first (h ∷ hs) [] n m l = absurd m
 holds-room e first (h ∷ hs) (v ∷ vs) zero m l = m .1
@@ -130,7 +130,7 @@ module _ (m first : ℕ) (hs vs : List ℕ) (two : 2 ≤ length vs) where
       })
 
   pub holds-meets : Holds (2 ^ m - 1) (2 ^ m - 1) first hs vs → Meets m first hs vs
-  unfolding base start
+  unfolding base fewest
   holds-meets y =
       let q : 2 ^ m - 2 ≡ 2 ^ m - 1 - 1 = omega arith in
       let e = 2 ^ m - 1 in

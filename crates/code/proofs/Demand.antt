@@ -24,7 +24,7 @@ use Rattle.code.proofs.Cells.{turned-ones}
 use Rattle.code.proofs.Grant.{grant-meets, grant-least, grant-refused}
 use Rattle.code.proofs.Run.{equal-range, run-same, total-same}
 use Rattle.code.proofs.Bytes.{accepted-is, triedCells, turns, tried-is, turned-blank, accepts-is}
-use Rattle.code.proofs.LayoutCall.{outside-within, within-outside, layout-none, ranges-length, counts-length, within, is-layout}
+use Rattle.code.proofs.LayoutCall.{outside-within, within-outside, layout-none, ranges-length, counts-length, bounded, is-layout}
 use Rattle.code.proofs.ReadCall.{read-as}
 use Rattle.code.proofs.WriteCall.{write-some, refused-not, leaves-is}
 
@@ -38,7 +38,7 @@ ruled s = triedCells (orderOf s) (s .m) (firstOf s) (countsOf s) (rangesOf s)
 
 module _ (s : Shape) (ok : layoutRefusal s 256 ≡ []) where
   some : 0 < s .m
-  some = omega (arith, within s ok .m-low)
+  some = omega (arith, bounded s ok .m-low)
 
   -- After an accepted write reading gives the generation answered and the number just written.
   pub reads-back : (x : ℕ) (bs : List ℕ) → Bytes bs → writeRefusal s x bs ≡ [] →
@@ -108,7 +108,7 @@ unfolding granted misfit
 layout-granted s g ok =
     let n = layout-none s g ok in
     let vs = rangesOf s in
-    let t2 : 2 ≤ length vs = omega (arith, outside-within s g (n .0) .t-low, ranges-length s) in
+    let t2 : 2 ≤ length vs = omega (arith, outside-within s g (n .0) .bounds .t-low, ranges-length s) in
     let f : getD (grant g (s .m) (firstOf s) vs) 0 0 ≤ g = ltb-false g (getD (grant g (s .m) (firstOf s) vs) 0 0) (n .1) in
     (grant-meets g (s .m) (firstOf s) vs t2 f, f, λ hs y. grant-least g (s .m) (firstOf s) hs vs t2 y .0)
 
@@ -119,7 +119,7 @@ pub layout-refused : (s : Shape) (g : ℕ) → outside s g ≡ false →
 unfolding layoutRefusal refusal granted misfit
 layout-refused s g w =
     let vs = rangesOf s in
-    let t2 : 2 ≤ length vs = omega (arith, outside-within s g w .t-low, ranges-length s) in
+    let t2 : 2 ≤ length vs = omega (arith, outside-within s g w .bounds .t-low, ranges-length s) in
     elim (le-or-lt (getD (grant g (s .m) (firstOf s) vs) 0 0) g) [
       | inl f ↦
           rw (w, le-ltb g (getD (grant g (s .m) (firstOf s) vs) 0 0) f)
@@ -139,22 +139,14 @@ unfolding countsOf
 granted-anywhere s g ok =
     let w = outside-within s g (layout-none s g ok .0) in
     let a = layout-granted s g ok in
-    let inside : outside s 256 ≡ false = within-outside s 256 (record {
-      m-low = w .m-low;
-      m-high = w .m-high;
-      t-low = w .t-low;
-      t-high = w .t-high;
-      v-low = w .v-low;
-      v-high = w .v-high;
-      g-high = omega arith;
-    }) in
+    let inside : outside s 256 ≡ false = within-outside s 256 (record { bounds = w .bounds; g-high = omega arith }) in
     let b = least-of (granted s g) (a .0) in
     let fits : layoutRefusal s 256 ≡ [] = open-refusal inside (omega (arith, b .1, a .1, w .g-high)) in
     (fits, rises-both (granted s g) (granted s 256) (a .2 (granted s 256) (layout-granted s 256 fits .0)) (b .0))
   where
     least-of : (hs : List ℕ) → Meets (s .m) (firstOf s) hs (rangesOf s) → Rises (granted s 256) hs × (getD (granted s 256) 0 0 ≤ getD hs 0 0)
     least-of hs y = unfold granted in
-        grant-least 256 (s .m) (firstOf s) hs (rangesOf s) (omega (arith, outside-within s g (layout-none s g ok .0) .t-low, ranges-length s)) y
+        grant-least 256 (s .m) (firstOf s) hs (rangesOf s) (omega (arith, outside-within s g (layout-none s g ok .0) .bounds .t-low, ranges-length s)) y
 
     open-refusal : outside s 256 ≡ false → getD (granted s 256) 0 0 ≤ 256 → layoutRefusal s 256 ≡ []
     open-refusal o f = unfold layoutRefusal in unfold refusal in unfold misfit in rw (o, le-ltb 256 (getD (granted s 256) 0 0) f)

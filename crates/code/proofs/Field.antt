@@ -10,7 +10,7 @@ use lib.Dec.{ltb, eqb}
 use borrow.Author.Tests.{le-leb, lt-leb, lt-ltb, le-ltb, ltb-true, eq-eqb, ne-eqb}
 use Rattle.code.specs.Deal.{written, deal, plainly}
 use Rattle.code.specs.Layout.{room}
-use Rattle.code.specs.Field.{zeros, past, base, start, carriers, told, pattern, Reading, blank, reads, miscounted, beyond, judged, read, erase, cleared, lay, after, refused, wrote, writeAt, writeOn, write}
+use Rattle.code.specs.Field.{zeros, past, base, fewest, carriers, told, pattern, Reading, blank, reads, miscounted, beyond, judged, read, erase, cleared, lay, after, refused, wrote, writeAt, writeOn, write}
 use Rattle.code.specs.Lists.{Upto}
 use Rattle.code.proofs.Tests.{le-or-lt, clash}
 use Rattle.code.proofs.Deal.{deal-is, plainly-is, plain-written, blank-number}
@@ -18,8 +18,8 @@ use Rattle.code.proofs.Places.{told-before}
 use Rattle.code.proofs.Conditions.{Holds, Layout, holds-falls, holds-room, head-most}
 use Rattle.code.proofs.Groups.{Grows, zeros-written, upto-grows, erase-wiped, erase-zeros, erase-length, lay-is, lay-blank, lay-grows, erase-lay-grows}
 
-pub base-bounds : (e first n : ℕ) → 2 ≤ e → first ≤ 1 → (0 < base e n) × (e - 1 ≤ base e n) × (start first n ≤ 1)
-unfolding base start
+pub base-bounds : (e first n : ℕ) → 2 ≤ e → first ≤ 1 → (0 < base e n) × (e - 1 ≤ base e n) × (fewest first n ≤ 1)
+unfolding base fewest
 base-bounds e first zero h f = omega arith
 base-bounds e first (suc n) h f = omega arith
 
@@ -115,7 +115,7 @@ module _ (e first : ℕ) (hs vs : List ℕ) where
   unfolding read
   read-judged gs n w a = rw (ne-eqb (written gs) 0 (λ q. omega arith), a)
 
-  pub judged-reads : (gs p : List ℕ) (n x : ℕ) → carriers e n gs ≡ p → length p ≡ getD hs n 0 → told e (base e n) (start first n) (getD hs (suc n) 0) p ≡ x →
+  pub judged-reads : (gs p : List ℕ) (n x : ℕ) → carriers e n gs ≡ p → length p ≡ getD hs n 0 → told e (base e n) (fewest first n) (getD hs (suc n) 0) p ≡ x →
       x < getD vs n 0 → judged e first hs vs gs n ≡ reads (suc n) x
   unfolding judged
   judged-reads gs p n x c l t h = rw (c, t, eq-eqb (length p) (getD hs n 0) l, lt-ltb x (getD vs n 0) h)
@@ -126,13 +126,13 @@ module _ (e first : ℕ) (hs vs : List ℕ) where
   unfolding judged
   judged-miscounted gs p n c d = rw (c, ne-eqb (length p) (getD hs n 0) d)
 
-  pub judged-beyond : (gs p : List ℕ) (n x : ℕ) → carriers e n gs ≡ p → length p ≡ getD hs n 0 → told e (base e n) (start first n) (getD hs (suc n) 0) p ≡ x →
+  pub judged-beyond : (gs p : List ℕ) (n x : ℕ) → carriers e n gs ≡ p → length p ≡ getD hs n 0 → told e (base e n) (fewest first n) (getD hs (suc n) 0) p ≡ x →
       getD vs n 0 ≤ x → judged e first hs vs gs n ≡ beyond (suc n)
   unfolding judged
   judged-beyond gs p n x c l t h = rw (c, t, eq-eqb (length p) (getD hs n 0) l, le-ltb x (getD vs n 0) h)
 
   read-is : (gs p : List ℕ) (n x : ℕ) → 0 < written gs → past hs (zeros gs) ≡ n → carriers e n gs ≡ p → length p ≡ getD hs n 0 →
-      told e (base e n) (start first n) (getD hs (suc n) 0) p ≡ x → x < getD vs n 0 → read e first hs vs gs ≡ reads (suc n) x
+      told e (base e n) (fewest first n) (getD hs (suc n) 0) p ≡ x → x < getD vs n 0 → read e first hs vs gs ≡ reads (suc n) x
   read-is gs p n x w a c l t h = read-judged gs n w a ∙ judged-reads gs p n x c l t h
 
   pub blank-read : (gs : List ℕ) → read e first hs vs gs ≡ blank → written gs ≡ 0
@@ -142,7 +142,7 @@ module _ (e first : ℕ) (hs vs : List ℕ) where
     | inr w ↦
         let n = past hs (zeros gs) in
         let xs = carriers e n gs in
-        let x = told e (base e n) (start first n) (getD hs (suc n) 0) xs in
+        let x = told e (base e n) (fewest first n) (getD hs (suc n) 0) xs in
         absurd (judged-some (eqb (length xs) (getD hs n 0)) (ltb x (getD vs n 0)) (suc n) x (length xs) (sym (read-judged gs n w refl) ∙ r))
   ]
 
@@ -153,7 +153,7 @@ module _ (e first : ℕ) (hs vs : List ℕ) where
     | inr w ↦
         let n = past hs (zeros gs) in
         let xs = carriers e n gs in
-        let x = told e (base e n) (start first n) (getD hs (suc n) 0) xs in
+        let x = told e (base e n) (fewest first n) (getD hs (suc n) 0) xs in
         judged-which (eqb (length xs) (getD hs n 0)) (ltb x (getD vs n 0)) (suc n) x (length xs) i y (sym (read-judged gs n w refl) ∙ r)
   ]
 
@@ -182,9 +182,9 @@ module _ (e first : ℕ) (hs vs : List ℕ) where
     pub long : length gs′ ≡ length gs
     pub small : Upto e gs′
     pub back : 0 < written gs′ → read e first hs vs gs′ ≡ reads (suc n) x
-    pub tells : told e (base e n) (start first n) (getD hs (suc n) 0) (carriers e n gs′) ≡ x
+    pub tells : told e (base e n) (fewest first n) (getD hs (suc n) 0) (carriers e n gs′) ≡ x
     pub ready : getD hs (suc n) 0 ≤ zeros gs′
-    pub marked : start first n ≤ written gs′
+    pub marked : fewest first n ≤ written gs′
     pub grows : Grows e gs gs′
 
   -- what an accepted write of x at generation i leaves
@@ -196,16 +196,16 @@ module _ (e first : ℕ) (hs vs : List ℕ) where
 
   module _ (y : Layout e first hs vs) where
     pub pictured : (n x : ℕ) → n < length hs → x < getD vs n 0 →
-        Pictured e (base e n) (start first n) (getD hs n 0) (getD hs (suc n) 0) x (pattern e (base e n) (start first n) (getD hs n 0) (getD hs (suc n) 0) x)
+        Pictured e (base e n) (fewest first n) (getD hs n 0) (getD hs (suc n) 0) x (pattern e (base e n) (fewest first n) (getD hs n 0) (getD hs (suc n) 0) x)
     pictured n x nl hx =
         let q = base-bounds e first n (y .wide) (y .form) in
-        pattern-is e (base e n) (start first n) (getD hs n 0) (getD hs (suc n) 0) x (q .0) (q .1) (omega (arith, y .wide)) (q .2)
+        pattern-is e (base e n) (fewest first n) (getD hs n 0) (getD hs (suc n) 0) x (q .0) (q .1) (omega (arith, y .wide)) (q .2)
         (holds-falls e e first hs vs n (y .holds) nl) (omega (arith, holds-room e first hs vs n (y .holds) nl))
 
     pub after-is : (n x : ℕ) (gs : List ℕ) → n < length hs → x < getD vs n 0 → length gs ≡ getD hs 0 0 → Ready hs n gs → After n x gs (after e first hs n x gs)
-    unfolding after cleared base start carriers
+    unfolding after cleared base fewest carriers
     after-is zero x gs nl hx l r =
-        let p = pattern e (base e 0) (start first 0) (getD hs 0 0) (getD hs 1 0) x in
+        let p = pattern e (base e 0) (fewest first 0) (getD hs 0 0) (getD hs 1 0) x in
         let q = pictured 0 x nl hx in
         let same : lay gs p ≡ p = lay-blank gs p r (q .long ∙ sym l) in
         rw same (record {
@@ -219,7 +219,7 @@ module _ (e first : ℕ) (hs vs : List ℕ) where
         })
     after-is (suc n) x gs nl hx l r =
         let h = getD hs (suc n) 0 in
-        let p = pattern e (base e (suc n)) (start first (suc n)) h (getD hs (suc (suc n)) 0) x in
+        let p = pattern e (base e (suc n)) (fewest first (suc n)) h (getD hs (suc (suc n)) 0) x in
         let q = pictured (suc n) x nl hx in
         let k = zeros gs - h in
         let pos : 0 < e = omega (arith, y .wide) in
@@ -249,7 +249,7 @@ module _ (e first : ℕ) (hs vs : List ℕ) where
 
     -- cells that a write leaves blank were written at generation 1 with number 0
     after-blank : (n x : ℕ) (gs gs′ : List ℕ) → After n x gs gs′ → written gs′ ≡ 0 → (n ≡ 0) × (x ≡ 0)
-    unfolding start base carriers
+    unfolding fewest base carriers
     after-blank zero x gs gs′ a z = (
       refl,
       sym (a .tells) ∙ told-before e e first (getD hs 1 0) gs′ (omega (arith, holds-falls e e first hs vs 1 (y .holds) (y .two)))

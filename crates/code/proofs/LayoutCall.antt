@@ -10,7 +10,7 @@ use lib.Seq.{take-at}
 use lib.Dec.{leb}
 use borrow.Author.Tests.{le-leb, lt-ltb, le-ltb, ltb-false, leb-true, not-false}
 use Rattle.code.specs.declared.Shape.{Shape}
-use Rattle.code.specs.Shape.{firstOf, rangesOf, outside, granted, misfit, countsOf, widthOf}
+use Rattle.code.specs.Shape.{firstOf, rangesOf, outside, Bounds, granted, misfit, countsOf, widthOf}
 use Rattle.code.specs.Calls.{filled, layoutFields, refusal, answer, layoutRefusal, layoutReply}
 use Rattle.code.proofs.Tests.{both-true, clash}
 use Rattle.code.proofs.Conditions.{Layout}
@@ -20,12 +20,7 @@ use Rattle.code.proofs.CountSteps.{steps-few}
 
 -- m, t, v and g within their bounds
 pub record Within (s : Shape) (g : ℕ) : Type 0 where
-  pub m-low : 2 ≤ s .m
-  pub m-high : s .m ≤ 4
-  pub t-low : 2 ≤ s .t
-  pub t-high : s .t ≤ 16
-  pub v-low : 2 ≤ s .v
-  pub v-high : s .v ≤ 2 ^ 56
+  pub bounds : Bounds s
   pub g-high : g ≤ 256
 
 pub outside-within : (s : Shape) (g : ℕ) → outside s g ≡ false → Within s g
@@ -40,21 +35,22 @@ outside-within s g h =
     let d = both-true (leb 2 m) (leb m 4) (c .0) in
     let e = both-true (leb 2 t) (leb t 16) (c .1) in
     let f = both-true (leb 2 v) (leb v (2 ^ 56)) (b .1) in
-    record {
+    let bounds : Bounds s = record {
       m-low = leb-true 2 m (d .0);
       m-high = leb-true m 4 (d .1);
       t-low = leb-true 2 t (e .0);
       t-high = leb-true t 16 (e .1);
       v-low = leb-true 2 v (f .0);
       v-high = leb-true v (2 ^ 56) (f .1);
-      g-high = leb-true g 256 (a .1);
-    }
+    } in
+    record { bounds = bounds; g-high = leb-true g 256 (a .1) }
 
 pub within-outside : (s : Shape) (g : ℕ) → Within s g → outside s g ≡ false
 unfolding outside
 within-outside s g w =
-    rw (le-leb 2 (s .m) (w .m-low), le-leb (s .m) 4 (w .m-high), le-leb 2 (s .t) (w .t-low), le-leb (s .t) 16 (w .t-high))
-    (rw (le-leb 2 (s .v) (w .v-low), le-leb (s .v) (2 ^ 56) (w .v-high), le-leb g 256 (w .g-high)))
+    let b = w .bounds in
+    rw (le-leb 2 (s .m) (b .m-low), le-leb (s .m) 4 (b .m-high), le-leb 2 (s .t) (b .t-low), le-leb (s .t) 16 (b .t-high))
+    (rw (le-leb 2 (s .v) (b .v-low), le-leb (s .v) (2 ^ 56) (b .v-high), le-leb g 256 (w .g-high)))
 
 -- a test that is passed, and those after it
 pub passed : (k : ℕ) (carried : List ℕ) (b : Bool) (tests : List (List ℕ × Bool)) → refusal ((k ∷ carried, b) ∷ tests) ≡ [] → (b ≡ false) × (refusal tests ≡ [])
@@ -115,8 +111,8 @@ first-form s = omega arith
 
 -- what a layout is that is granted to read, write and export
 module _ (s : Shape) (ok : layoutRefusal s 256 ≡ []) where
-  pub within : Within s 256
-  within = outside-within s 256 (layout-none s 256 ok .0)
+  pub bounded : Bounds s
+  bounded = outside-within s 256 (layout-none s 256 ok .0) .bounds
 
   pub counts-length : length (countsOf s) ≡ s .t
   unfolding countsOf
@@ -128,16 +124,16 @@ module _ (s : Shape) (ok : layoutRefusal s 256 ≡ []) where
 
   pub is-layout : Layout (2 ^ s .m - 1) (firstOf s) (countsOf s) (rangesOf s)
   unfolding countsOf granted widthOf
-  is-layout = grant-fits 256 (s .m) (firstOf s) (rangesOf s) (omega (arith, within .t-low, ranges-length s)) fits (within .m-low) (first-form s)
+  is-layout = grant-fits 256 (s .m) (firstOf s) (rangesOf s) (omega (arith, bounded .t-low, ranges-length s)) fits (bounded .m-low) (first-form s)
 
   -- no generation writes more places than 57
   pub counts-near : (i : ℕ) → getD (countsOf s) i 0 ≤ getD (countsOf s) (suc i) 0 + 57
   unfolding countsOf granted rangesOf
-  counts-near i = steps-few 256 (s .m) (firstOf s) (rangesOf s) i (within .m-low) (first-form s) (all (s .t))
+  counts-near i = steps-few 256 (s .m) (firstOf s) (rangesOf s) i (bounded .m-low) (first-form s) (all (s .t))
     where
       all : (t : ℕ) → Upto (2 ^ 56) (replicate t (s .v))
       all zero = tt
-      all (suc t) = (within .v-high, all t)
+      all (suc t) = (bounded .v-high, all t)
 
 -- a list and zeros behind it, in n places
 padded : (n k : ℕ) (xs : List ℕ) → length xs ≤ n → n ≤ k → take n (xs ++ replicate k 0) ≡ xs ++ replicate (n - length xs) 0
@@ -209,7 +205,7 @@ module _ (s : Shape) (g k : ℕ) (h : List ℕ) (promise : k ∷ h ≡ filled la
     unfolding misfit
     reply-list =
         let n = layout-none s g reply-none in
-        cc (reply-granted s g (n .0) (ltb-false g (getD (granted s g) 0 0) (n .1)) (outside-within s g (n .0) .t-high))
+        cc (reply-granted s g (n .0) (ltb-false g (getD (granted s g) 0 0) (n .1)) (outside-within s g (n .0) .bounds .t-high))
 
     pub reply-counts : take (s .t) h ≡ granted s g
     reply-counts = rw reply-list (take-at (granted s g) (replicate (16 - s .t) 0) (s .t) (granted-length s g))

@@ -10,7 +10,7 @@ use lib.Dec.{leb}
 use borrow.Author.Tests.{le-leb, lt-leb, lt-ltb, le-ltb}
 use Rattle.code.specs.Count.{choose, fewer}
 use Rattle.code.specs.Deal.{written, number}
-use Rattle.code.specs.Field.{zeros, base, start, carriers, reads, read, after, refused, wrote, writeAt, writeOn, write}
+use Rattle.code.specs.Field.{zeros, base, fewest, carriers, reads, read, after, refused, wrote, writeAt, writeOn, write}
 use Rattle.code.specs.Run.{accepted, kept, run, total, opening}
 use Rattle.code.specs.Lists.{Below}
 use Rattle.code.proofs.Tests.{le-or-lt}
@@ -171,18 +171,18 @@ module _ (e first : ℕ) (hs vs : List ℕ) where
 
 -- generation 1 leaves the cells blank exactly where the number is one of the opening zeros
 first-tells : (e first : ℕ) (hs vs : List ℕ) (x : ℕ) (gs gs′ : List ℕ) → Layout e first hs vs → After e first hs vs 0 x gs gs′ → number e first gs′ ≡ x
-unfolding base start carriers
+unfolding base fewest carriers
 first-tells e first hs vs x gs gs′ y a = sym (told-before e e first (getD hs 1 0) gs′ (omega (arith, holds-falls e e first hs vs 1 (y .holds) (y .two))))
     ∙ a .tells
 
-start-pos : (first c : ℕ) → 0 < first → 0 < start first c
-unfolding start
-start-pos first zero h = h
-start-pos first (suc c) h = omega arith
+fewest-pos : (first c : ℕ) → 0 < first → 0 < fewest first c
+unfolding fewest
+fewest-pos first zero h = h
+fewest-pos first (suc c) h = omega arith
 
 after-stands : (e first : ℕ) (hs vs : List ℕ) (c x : ℕ) (gs gs′ : List ℕ) → Layout e first hs vs → c < length hs → After e first hs vs c x gs gs′ →
     Stands e first hs vs (next first (length hs) c x) gs′
-unfolding next start
+unfolding next fewest
 after-stands e zero hs vs zero zero gs gs′ y l a = number-blank e gs′ (first-tells e 0 hs vs 0 gs gs′ y a)
 after-stands e zero hs vs zero (suc x) gs gs′ y l a = elim (le-or-lt (written gs′) 0) [
   | inl z ↦ absurd (omega (arith, first-tells e 0 hs vs (suc x) gs gs′ y a, blank-number e 0 gs′ (omega arith)))
@@ -190,7 +190,7 @@ after-stands e zero hs vs zero (suc x) gs gs′ y l a = elim (le-or-lt (written 
 ]
 after-stands e zero hs vs (suc c) x gs gs′ y l a = stands-up e 0 hs vs (suc c) x gs gs′ l (a .marked) a
 after-stands e (suc first) hs vs c x gs gs′ y l a =
-    stands-up e (suc first) hs vs c x gs gs′ l (omega (arith, a .marked, start-pos (suc first) c (omega arith))) a
+    stands-up e (suc first) hs vs c x gs gs′ l (omega (arith, a .marked, fewest-pos (suc first) c (omega arith))) a
 
 module _ (e first : ℕ) (hs vs : List ℕ) (y : Layout e first hs vs) where
   -- a write where a generation is left

@@ -14,7 +14,7 @@ use Rattle.code.specs.declared.Shape.{Shape}
 use Rattle.code.specs.Shape.{firstOf, rangesOf, orderOf, outside, misfit, granted, countsOf, widthOf}
 use Rattle.code.specs.Layout.{room}
 use Rattle.code.specs.Cells.{opened, sound, stored, turned}
-use Rattle.code.specs.Field.{zeros, past, base, start, pattern, Reading, blank, reads, miscounted, beyond, read, erase, cleared, lay, after, Writing, refused, wrote, writeAt, writeOn, write}
+use Rattle.code.specs.Field.{zeros, past, base, fewest, pattern, Reading, blank, reads, miscounted, beyond, read, erase, cleared, lay, after, Writing, refused, wrote, writeAt, writeOn, write}
 use Rattle.code.specs.Run.{accepted, kept}
 use Rattle.code.specs.Calls.{readCells, storing, writeCells, refusal, answer, passes, leaves, layoutRefusal, fieldRead, fieldWrite, unsound, unreadable, spent, writeRefusal, madeAt, writeReply, writeLeaves}
 use Rattle.code.proofs.Tests.{le-or-lt}
@@ -22,7 +22,7 @@ use Rattle.code.proofs.Conditions.{holds-room}
 use Rattle.code.proofs.Groups.{blank-zeros, erase-blank}
 use Rattle.code.proofs.Field.{past-next, past-below, Ready, read-past, blank-read, write-read, write-taken}
 use Rattle.code.proofs.Bytes.{storing-accepted, triedCells}
-use Rattle.code.proofs.LayoutCall.{refusal-some, refused-early, passed-early, range-at, within, counts-length, is-layout}
+use Rattle.code.proofs.LayoutCall.{refusal-some, refused-early, passed-early, range-at, bounded, counts-length, is-layout}
 
 -- a refused write: its number alone, and the cells as they were
 abbrev pub Refuses : Shape → ℕ → List ℕ → ℕ → Type 0
@@ -80,10 +80,10 @@ module _ (s : Shape) (ok : layoutRefusal s 256 ≡ []) where
   full = 2 ^ s .m - 1
 
   abbrev pub patternAt : ℕ → ℕ → List ℕ
-  patternAt n x = pattern full (base full n) (start (firstOf s) n) (getD (countsOf s) n 0) (getD (countsOf s) (suc n) 0) x
+  patternAt n x = pattern full (base full n) (fewest (firstOf s) n) (getD (countsOf s) n 0) (getD (countsOf s) (suc n) 0) x
 
   -- there is room for every number of the range, and its pattern has values below 2^m
-  pub room-for : (n x : ℕ) → n < s .t → x < s .v → x < room full (base full n) (start (firstOf s) n) (getD (countsOf s) n 0) (getD (countsOf s) (suc n) 0)
+  pub room-for : (n x : ℕ) → n < s .t → x < s .v → x < room full (base full n) (fewest (firstOf s) n) (getD (countsOf s) n 0) (getD (countsOf s) (suc n) 0)
   room-for n x l h = omega (
     arith,
     range-at s n l,
@@ -105,7 +105,7 @@ module _ (s : Shape) (ok : layoutRefusal s 256 ≡ []) where
       (write full (firstOf s) (countsOf s) (rangesOf s) x gs ≡ wrote 1 (after full (firstOf s) (countsOf s) 0 x gs)) × Ready (countsOf s) 0 gs
   unfolding writeOn
   first-write x gs r h =
-      let w = within s ok in (
+      let w = bounded s ok in (
         write-read full (firstOf s) (countsOf s) (rangesOf s) x gs blank r
             ∙ write-taken full (firstOf s) (countsOf s) (rangesOf s) x gs 0 (omega (arith, counts-length s ok, w .t-low))
             (omega (arith, range-at s 0 (omega (arith, w .t-low)))),
@@ -129,7 +129,7 @@ module _ (s : Shape) (ok : layoutRefusal s 256 ≡ []) where
         arith,
         read-past full (firstOf s) (countsOf s) (rangesOf s) gs i y r,
         below (countsOf s) (zeros gs)
-            (omega (arith, counts-length s ok, within s ok .t-low)),
+            (omega (arith, counts-length s ok, bounded s ok .t-low)),
         counts-length s ok,
       )
     where
@@ -163,7 +163,7 @@ module _ (s : Shape) (ok : layoutRefusal s 256 ≡ []) where
     where
       large : s .v ≤ x → (r : Reading) → read full (firstOf s) (countsOf s) (rangesOf s) gs ≡ r →
           passes (refusal (lastTests x r)) ≡ accepted (writeOn full (firstOf s) (countsOf s) (rangesOf s) x gs r)
-      large h blank q = rw (le-leb (s .v) x h, at-accepted x 0 gs (omega (arith, within s ok .t-low)), le-ltb x (s .v) h)
+      large h blank q = rw (le-leb (s .v) x h, at-accepted x 0 gs (omega (arith, bounded s ok .t-low)), le-ltb x (s .v) h)
       large h (reads i y) q = elim (ℕ-discrete i (s .t)) [
         | yes e ↦ rw (le-leb (s .v) x h, at-spent x i gs e)
         | no d ↦ rw (le-leb (s .v) x h, at-accepted x i gs (lt-of-le-ne (read-most gs i y q) d), le-ltb x (s .v) h)
@@ -173,7 +173,7 @@ module _ (s : Shape) (ok : layoutRefusal s 256 ≡ []) where
 
       small : x < s .v → (r : Reading) → read full (firstOf s) (countsOf s) (rangesOf s) gs ≡ r →
           passes (refusal (lastTests x r)) ≡ accepted (writeOn full (firstOf s) (countsOf s) (rangesOf s) x gs r)
-      small h blank q = rw (lt-leb (s .v) x h, at-accepted x 0 gs (omega (arith, within s ok .t-low)), lt-ltb x (s .v) h)
+      small h blank q = rw (lt-leb (s .v) x h, at-accepted x 0 gs (omega (arith, bounded s ok .t-low)), lt-ltb x (s .v) h)
       small h (reads i y) q = elim (ℕ-discrete i (s .t)) [
         | yes e ↦ rw (lt-leb (s .v) x h, eq-eqb i (s .t) e, at-spent x i gs e)
         | no d ↦ rw (lt-leb (s .v) x h, ne-eqb i (s .t) d, at-accepted x i gs (lt-of-le-ne (read-most gs i y q) d), lt-ltb x (s .v) h)

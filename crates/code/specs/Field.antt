@@ -29,9 +29,9 @@ base e zero = e
 base e (suc n) = e - 1
 
 -- "k from 0"; "k from 1"
-unfoldable pub start : ℕ → ℕ → ℕ
-start first zero = first
-start first (suc n) = 1
+unfoldable pub fewest : ℕ → ℕ → ℕ
+fewest first zero = first
+fewest first (suc n) = 1
 
 -- "places are all h_1 groups"; "places are the unerased groups"
 unfoldable pub carriers : ℕ → ℕ → List ℕ → List ℕ
@@ -62,7 +62,7 @@ pub data Reading : Type 0 where
 unfoldable pub judged : ℕ → ℕ → List ℕ → List ℕ → List ℕ → ℕ → Reading
 judged e first hs vs gs n =
     let xs = carriers e n gs in
-    let x = told e (base e n) (start first n) (getD hs (suc n) 0) xs in
+    let x = told e (base e n) (fewest first n) (getD hs (suc n) 0) xs in
     cond (eqb (length xs) (getD hs n 0)) (cond (ltb x (getD vs n 0)) (reads (suc n) x) (beyond (suc n))) (miscounted (suc n) (length xs))
 
 -- all-zero cells have used no generation; others are of the generation that z points to
@@ -92,7 +92,7 @@ lay (zero ∷ xs) (p ∷ ps) = p ∷ lay xs ps
 unfoldable pub after : ℕ → ℕ → List ℕ → ℕ → ℕ → List ℕ → List ℕ
 after e first hs n x gs =
     let h = getD hs n 0 in
-    lay (cleared e n h gs) (pattern e (base e n) (start first n) h (getD hs (suc n) 0) x)
+    lay (cleared e n h gs) (pattern e (base e n) (fewest first n) h (getD hs (suc n) 0) x)
 
 -- 01, Writing: generation and what is left in the cells, or a refusal
 pub data Writing : Type 0 where

@@ -1,5 +1,5 @@
 -- What a caller gives of a field, and what the general definitions take of it. Document 01 has one form, one order of bits and t equal ranges.
-use Prim.Native.Nat.{ℕ, _^_}
+use Prim.Native.Nat.{ℕ, _^_, _≤_}
 use mathlib.Core.Bool.{Bool, not, _&&_}
 use mathlib.Core.List.{List}
 use lib.Dec.{leb, ltb}
@@ -26,6 +26,15 @@ orderOf s = 0
 -- "m, cells (wits) in a group: 2 to 4. t, generations: 2 to 16. v, range: 2 to 2^56"; "g, groups offered to a layout: 0 to 256"
 unfoldable pub outside : Shape → ℕ → Bool
 outside s g = not ((leb 2 (s .m) && leb (s .m) 4) && (leb 2 (s .t) && leb (s .t) 16) && (leb 2 (s .v) && leb (s .v) (2 ^ 56)) && leb g 256)
+
+-- the same bounds of m, t and v as facts, for contracts
+pub record Bounds (s : Shape) : Type 0 where
+  pub m-low : 2 ≤ s .m
+  pub m-high : s .m ≤ 4
+  pub t-low : 2 ≤ s .t
+  pub t-high : s .t ≤ 16
+  pub v-low : 2 ≤ s .v
+  pub v-high : s .v ≤ 2 ^ 56
 
 -- 01, Layout: "The granted list"
 unfoldable pub granted : Shape → ℕ → List ℕ

@@ -21,7 +21,7 @@ use Rattle.code.proofs.Places.{plainFrom, plain-from, deal-laid}
 use Rattle.code.proofs.Count.{choose-grows, choose-more, choose-up, fewer-none, fewer-step, fewer-grows}
 use Rattle.counting.specs.Cap.{cap, sat}
 use Rattle.counting.proofs.Laws.{choose-above, choose-one, choose-positive, inner-small, fewer-one, power-one, power-more, term-one}
-use Rattle.dealing.specs.Pick.{picked, Candidate}
+use Rattle.dealing.specs.Pick.{unranked, Candidate}
 use Rattle.dealing.proofs.Telling.{plain-end, room}
 
 set-front : (l : List ℕ) (j v : ℕ) → j < length l → drop j (set l j v) ≡ v ∷ drop (suc j) l
@@ -109,18 +109,18 @@ laid-long b (suc s) (suc k) r d = elim (le-or-lt (choose s (suc k)) r) [
   | inr h ↦ rw (lt-leb (choose s (suc k)) r h) (ap suc (laid-long b s (suc k) r d))
 ]
 
-pub picked-none : (s r : ℕ) → picked s 0 r ≡ []
-unfolding picked
-picked-none zero r = refl
-picked-none (suc s) r = refl
+pub unranked-none : (s r : ℕ) → unranked s 0 r ≡ []
+unfolding unranked
+unranked-none zero r = refl
+unranked-none (suc s) r = refl
 
-labels-picked : (b s k r d : ℕ) → labels (laid b s k r d) ≡ picked s k r
-unfolding laid labels picked
-labels-picked b zero k r d = refl
-labels-picked b (suc s) zero r d = labels-picked b s zero r d ∙ picked-none s r
-labels-picked b (suc s) (suc k) r d = elim (le-or-lt (choose s (suc k)) r) [
-  | inl h ↦ rw (le-leb (choose s (suc k)) r h, laid-long b s k (r - choose s (suc k)) (d % b ^ k), labels-picked b s k (r - choose s (suc k)) (d % b ^ k))
-  | inr h ↦ rw (lt-leb (choose s (suc k)) r h) (labels-picked b s (suc k) r d)
+labels-unranked : (b s k r d : ℕ) → labels (laid b s k r d) ≡ unranked s k r
+unfolding laid labels unranked
+labels-unranked b zero k r d = refl
+labels-unranked b (suc s) zero r d = labels-unranked b s zero r d ∙ unranked-none s r
+labels-unranked b (suc s) (suc k) r d = elim (le-or-lt (choose s (suc k)) r) [
+  | inl h ↦ rw (le-leb (choose s (suc k)) r h, laid-long b s k (r - choose s (suc k)) (d % b ^ k), labels-unranked b s k (r - choose s (suc k)) (d % b ^ k))
+  | inr h ↦ rw (lt-leb (choose s (suc k)) r h) (labels-unranked b s (suc k) r d)
 ]
 
 -- nor the digits on the labels
@@ -136,13 +136,13 @@ values-plainly b (suc s) (suc k) r d h = elim (le-or-lt (choose s (suc k)) r) [
 
 -- the pattern of a number by label and value
 pub chosen : (b first s n k rest : ℕ) (at less : List ℕ) → 0 < b → first ≤ k → n ≡ fewer b s first k + rest → rest < choose s k * b ^ k →
-    take k at ≡ picked s k (rest / b ^ k) → take k less ≡ plainly b k (rest % b ^ k) → Chosen (deal b first s n) at less k
+    take k at ≡ unranked s k (rest / b ^ k) → take k less ≡ plainly b k (rest % b ^ k) → Chosen (deal b first s n) at less k
 chosen b first s n k rest at less pos low e h ea el =
     let z = one-le-pow k b pos in
     let r : rest / b ^ k < choose s k = div-lt-iff-lt-mul z .1 h in
     rw (deal-laid b first s n k rest pos low e h) (record {
       count = sym (laid-is b pos s k (rest / b ^ k) (rest % b ^ k) r (mod-lt rest z) .marks);
-      places = ea ∙ sym (labels-picked b s k (rest / b ^ k) (rest % b ^ k));
+      places = ea ∙ sym (labels-unranked b s k (rest / b ^ k) (rest % b ^ k));
       marks = el ∙ sym (values-plainly b s k (rest / b ^ k) (rest % b ^ k) r);
     })
 
@@ -151,33 +151,33 @@ pub chosen-none : (b first s n : ℕ) (at less : List ℕ) → 0 < b → n + fir
 unfolding choose plainly
 chosen-none b first s n at less pos z =
     chosen b first s n 0 0 at less pos (omega arith) (omega (arith, fewer-none b s first 0 (omega arith))) (rw pow-zero (omega arith))
-    (sym (picked-none s _)) refl
+    (sym (unranked-none s _)) refl
 
 -- the first label is the highest whose binomial still fits
-picked-jump : (n i q r : ℕ) → choose i (suc q) ≤ r → r < choose (suc i) (suc q) → picked (suc (n + i)) (suc q) r ≡ i ∷ picked i q (r - choose i (suc q))
-unfolding picked
-picked-jump zero i q r low high = rw (zero-add i, le-leb (choose i (suc q)) r low)
-picked-jump (suc n) i q r low high =
+unranked-jump : (n i q r : ℕ) → choose i (suc q) ≤ r → r < choose (suc i) (suc q) → unranked (suc (n + i)) (suc q) r ≡ i ∷ unranked i q (r - choose i (suc q))
+unfolding unranked
+unranked-jump zero i q r low high = rw (zero-add i, le-leb (choose i (suc q)) r low)
+unranked-jump (suc n) i q r low high =
     let g : r < choose (suc (n + i)) (suc q) = let e : n + suc i ≡ suc (n + i) = omega arith in omega (arith, rw e at (choose-more n (suc i) (suc q))) in
-    rw (suc-add n i, lt-leb (choose (suc (n + i)) (suc q)) r g) (picked-jump n i q r low high)
+    rw (suc-add n i, lt-leb (choose (suc (n + i)) (suc q)) r g) (unranked-jump n i q r low high)
 
 -- the labels stand in l up to place `at`; `left` of them are to be found among `free` places
 pub record Unranking (s k r₀ : ℕ) (l : List ℕ) (at free left r : ℕ) : Type 0 where
   pub total : at + left ≡ k
-  pub rest : take at l ++ picked free left r ≡ picked s k r₀
+  pub rest : take at l ++ unranked free left r ≡ unranked s k r₀
   pub fits : r < choose free left
 
 -- labels whose binomials do not fit are passed by
-picked-past : (n i q r : ℕ) → r < choose i (suc q) → picked (n + i) (suc q) r ≡ picked i (suc q) r
-unfolding picked
-picked-past zero i q r h = rw (zero-add i)
-picked-past (suc n) i q r h = rw (suc-add n i, lt-leb (choose (n + i) (suc q)) r (omega (arith, choose-more n i (suc q)))) (picked-past n i q r h)
+unranked-past : (n i q r : ℕ) → r < choose i (suc q) → unranked (n + i) (suc q) r ≡ unranked i (suc q) r
+unfolding unranked
+unranked-past zero i q r h = rw (zero-add i)
+unranked-past (suc n) i q r h = rw (suc-add n i, lt-leb (choose (n + i) (suc q)) r (omega (arith, choose-more n i (suc q)))) (unranked-past n i q r h)
 
 pub unrank-begin : (s k r free : ℕ) (l : List ℕ) → 0 < k → free ≤ s → r < choose free k → Unranking s k r l 0 free k r
 unrank-begin s zero r free l p h fits = absurd (omega arith)
 unrank-begin s (suc q) r free l p h fits =
     let e : s - free + free ≡ s = omega arith in
-    record { total = omega arith; rest = sym (rw e at (picked-past (s - free) free q r fits)); fits = fits }
+    record { total = omega arith; rest = sym (rw e at (unranked-past (s - free) free q r fits)); fits = fits }
 
 -- a rank that fits tells that there are as many places as are to be written
 pub enough : (free left r : ℕ) → r < choose free left → left ≤ free
@@ -217,18 +217,18 @@ module _ (s k r₀ : ℕ) (l : List ℕ) (at free left r : ℕ) (L : Unranking s
           let low′ : choose found (suc q) ≤ r = omega arith in
           rw (add-one at, v) (record {
             total = omega (arith, L .total);
-            rest = rw (take-suc-set l at found room, append-assoc, ← picked-jump n found q r low′ high′, ← ef, ← el) (L .rest);
+            rest = rw (take-suc-set l at found room, append-assoc, ← unranked-jump n found q r low′ high′, ← ef, ← el) (L .rest);
             fits = omega arith;
           })
 
   -- the last label is the rank
-  pub unrank-last : left ≡ 1 → take k (set l at r) ≡ picked s k r₀
+  pub unrank-last : left ≡ 1 → take k (set l at r) ≡ unranked s k r₀
   unrank-last one =
       let e : k ≡ suc at = omega (arith, L .total) in
       let f : r < free = omega (arith, choose-one free, rw one at (L .fits)) in
       let g : free ≡ suc (free - suc r + r) = omega arith in
-      let jump = picked-jump (free - suc r) r 0 r (omega (arith, choose-one r)) (omega (arith, choose-one (suc r))) in
-      ap (λ (x : ℕ). take x (set l at r)) e ∙ take-suc-set l at r room ∙ rw (← picked-none r (r - choose r 1), ← jump, ← g, ← one) (L .rest)
+      let jump = unranked-jump (free - suc r) r 0 r (omega (arith, choose-one r)) (omega (arith, choose-one (suc r))) in
+      ap (λ (x : ℕ). take x (set l at r)) e ∙ take-suc-set l at r room ∙ rw (← unranked-none r (r - choose r 1), ← jump, ← g, ← one) (L .rest)
 
 -- the places of a number: what is left of it lies past the patterns with fewer than k written places
 pub record Splitting (b first s n k power term rest : ℕ) : Type 0 where
@@ -300,5 +300,5 @@ module _ {b first s n k power term rest : ℕ} (pos : 0 < b) (S : Splitting b fi
   pub split-digits : rest % power < b ^ k
   split-digits = omega (arith, mod-lt rest split-divisor, S .power-is)
 
-  pub split-chosen : (at less : List ℕ) → take k at ≡ picked s k (rest / power) → take k less ≡ plainly b k (rest % power) → Chosen (deal b first s n) at less k
+  pub split-chosen : (at less : List ℕ) → take k at ≡ unranked s k (rest / power) → take k less ≡ plainly b k (rest % power) → Chosen (deal b first s n) at less k
   split-chosen at less ea el = chosen b first s n k rest at less pos (S .from) (S .number) fits (rw (S .power-is) at ea) (rw (S .power-is) at el)

@@ -8,10 +8,10 @@ use Rattle.code.specs.Count.{choose}
 use Rattle.counting.specs.Cap.{cap}
 
 -- "The way back goes group by group, from the highest label down": the labels of k written among s places, of rank r
-unfoldable pub picked : ℕ → ℕ → ℕ → List ℕ
-picked zero k r = []
-picked (suc s) zero r = []
-picked (suc s) (suc k) r = cond (leb (choose s (suc k)) r) (s ∷ picked s k (r - choose s (suc k))) (picked s (suc k) r)
+unfoldable pub unranked : ℕ → ℕ → ℕ → List ℕ
+unranked zero k r = []
+unranked (suc s) zero r = []
+unranked (suc s) (suc k) r = cond (leb (choose s (suc k)) r) (s ∷ unranked s k (r - choose s (suc k))) (unranked s (suc k) r)
 
 -- the label that is looked for, of rank r with `left` of them left, is not above this one, whose binomial is `fit`
 pub record Candidate (left r label fit : ℕ) : Type 0 where

@@ -1,5 +1,5 @@
 // Numbers told from patterns and dealt to them: document 01, "Dealing numbers to patterns". Of the s places of a pattern the k written ones are given,
-// leftmost first, by label and by value less 1. b is the number of values that a written place takes, start the least number of written places.
+// leftmost first, by label and by value less 1. b is the number of values that a written place takes, fewest the least number of written places.
 // What reaches 2^56 + 1 counts as 2^56 + 1.
 ghost use mathlib.Core.Path.{_≡_};
 ghost use Prim.Native.Nat.{ℕ, suc, _+_, _*_, _/_, _%_, _^_, _<_, _≤_};
@@ -8,7 +8,7 @@ ghost use Rattle.code.specs.Count.{choose, fewer};
 ghost use Rattle.code.specs.Deal.{deal, plain, plainly};
 ghost use Rattle.code.specs.Chosen.{ranked, patternMost, Chosen};
 ghost use Rattle.counting.specs.Cap.{cap, sat};
-ghost use Rattle.dealing.specs.Pick.{picked, Candidate};
+ghost use Rattle.dealing.specs.Pick.{unranked, Candidate};
 
 // What the arrays have room for.
 pub const PATTERN_MOST: usize = 64;
@@ -21,13 +21,13 @@ pub fn number(
     k: usize,
     s: u64,
     b: u64,
-    start: u64,
+    fewest: u64,
 ) -> u64
     requires { ⌜ (length (now labels) ≡ patternMost) × (length (now values) ≡ patternMost) ⌝ }
-    requires { ⌜ (k ≤ patternMost) × (k ≤ s) × (s ≤ 256) × (1 < b) × (b ≤ 15) × (start ≤ 1) ⌝ }
-    ensures { λ r. ⌜ r ≡ sat (fewer b s start k + (ranked (take k (now (labels .entry))) * b ^ k + plain b (take k (now (values .entry))))) ⌝ }
+    requires { ⌜ (k ≤ patternMost) × (k ≤ s) × (s ≤ 256) × (1 < b) × (b ≤ 15) × (fewest ≤ 1) ⌝ }
+    ensures { λ r. ⌜ r ≡ sat (fewer b s fewest k + (ranked (take k (now (labels .entry))) * b ^ k + plain b (take k (now (values .entry))))) ⌝ }
 {
-    let below = counting::fewer(b, start, s, k as u64);
+    let below = counting::fewer(b, fewest, s, k as u64);
     if counting::CAP <= below {
         return counting::CAP;
     }
@@ -139,7 +139,7 @@ struct Reach {
 fn unrank(labels: &mut [u8; PATTERN_MOST], s: u64, k: u64, r: u64)
     requires { ⌜ length (now labels) ≡ patternMost ⌝ }
     requires { ⌜ (s ≤ 256) × (0 < k) × (k ≤ patternMost) × (r < cap) × (r < choose s k) ⌝ }
-    ensures { λ _. ⌜ (take k (now (labels .exit)) ≡ picked s k r) × (length (now (labels .exit)) ≡ patternMost) ⌝ }
+    ensures { λ _. ⌜ (take k (now (labels .exit)) ≡ unranked s k r) × (length (now (labels .exit)) ≡ patternMost) ⌝ }
 {
     let top = settle(s, k);
     let mut label = top.label;
@@ -207,21 +207,21 @@ pub fn deal(
     values: &mut [u8; PATTERN_MOST],
     s: u64,
     b: u64,
-    start: u64,
+    fewest: u64,
     n: u64,
 ) -> usize
     requires { ⌜ (length (now labels) ≡ patternMost) × (length (now values) ≡ patternMost) ⌝ }
-    requires { ⌜ (s ≤ 256) × (0 < b) × (b ≤ 15) × (start ≤ 1) × (n < cap) × (n < fewer b s start (suc s)) ⌝ }
-    ensures { λ r. ⌜ Chosen (deal b start s n) (now (labels .exit)) (now (values .exit)) r ⌝ }
+    requires { ⌜ (s ≤ 256) × (0 < b) × (b ≤ 15) × (fewest ≤ 1) × (n < cap) × (n < fewer b s fewest (suc s)) ⌝ }
+    ensures { λ r. ⌜ Chosen (deal b fewest s n) (now (labels .exit)) (now (values .exit)) r ⌝ }
     ensures { λ r. ⌜ (r ≤ patternMost) × (length (now (labels .exit)) ≡ patternMost) × (length (now (values .exit)) ≡ patternMost) ⌝ }
 {
-    if n + start == 0 {
+    if n + fewest == 0 {
         return 0;
     }
     let mut k: u64 = 1;
     let mut power = b;
     let mut term = s * b;
-    let mut rest = n + start - 1;
+    let mut rest = n + fewest - 1;
     while term <= rest {
         rest -= term;
         term = counting::next_term(term, b, s, k);

@@ -64,7 +64,7 @@ module _ (serial m t v : ℕ) (cells out after : List ℕ) where
         let b = passed 1 [] (outside s 256) _ (a .1) in
         let c = passed 2 [] (misfit 256 (countsOf s)) _ (b .1) in
         let d = passed 3 [] (unsound s cells) _ (c .1) in
-        let w = outside-within s 256 (b .0) in
+        let w = outside-within s 256 (b .0) .bounds in
         let narrow : widthOf s ≤ 256 = ltb-false 256 (widthOf s) (c .0) in
         let whole = both-true (eqb (length cells) (size m (widthOf s))) _ (not-false _ (d .0)) .0 in
         let wits : m * widthOf s ≤ 4 * 256 = mul-le-mul (w .m-high) narrow in (

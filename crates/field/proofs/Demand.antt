@@ -17,7 +17,7 @@ use Rattle.code.specs.Calls.{answer, passes, layoutRefusal, fieldRead, left, re
 use Rattle.code.proofs.Wits.{Bytes}
 use Rattle.code.proofs.Bytes.{tried-is}
 use Rattle.code.proofs.Run.{run-more, total-more}
-use Rattle.code.proofs.LayoutCall.{within, is-layout, layout-which}
+use Rattle.code.proofs.LayoutCall.{bounded, is-layout, layout-which}
 use Rattle.code.proofs.WriteCall.{write-some, write-no-layout, leaves-is}
 use Rattle.code.proofs.Demand as Code
 use Rattle.field.specs.declared.Reading.{Reading}
@@ -132,7 +132,7 @@ module _ (s : Shape) (ok : layoutRefusal s 256 ≡ []) (xs : List ℕ) (cells : 
       rw (C .blank) (λ i b. omega (arith, getD-replicate {A = ℕ} n i 0 0 (rw (length-replicate {A = ℕ} n 0) at b)))
   are-bytes (suc j) l =
       rw (C .each j (omega arith) .1, leaves-is s ok (getD xs j 0) (cells j))
-      (tried-is (orderOf s) (s .m) (firstOf s) (countsOf s) (rangesOf s) (is-layout s ok) (omega (arith, within s ok .m-low)) (getD xs j 0) (cells j)
+      (tried-is (orderOf s) (s .m) (firstOf s) (countsOf s) (rangesOf s) (is-layout s ok) (omega (arith, bounded s ok .m-low)) (getD xs j 0) (cells j)
       (are-bytes j (omega arith)) .0)
 
   -- After each accepted call reading gives the generation answered and the number just written.

@@ -39,10 +39,10 @@ use Rattle.layout.proofs.Planning.{plan-refused}
 use Rattle.field.specs.Answers.{answerOf, fieldGroups, Holds, Looked, Close, Ranged}
 
 -- The number that places tell, from their labels and values, and from their digits.
-pub pattern-told : (b start s : ℕ) (xs at less : List ℕ) (k r : ℕ) → Gathered xs at less k → s ≡ length xs →
-    r ≡ sat (fewer b s start k + (ranked (take k at) * b ^ k + plain b (take k less))) → r ≡ sat (number b start xs)
+pub pattern-told : (b fewest s : ℕ) (xs at less : List ℕ) (k r : ℕ) → Gathered xs at less k → s ≡ length xs →
+    r ≡ sat (fewer b s fewest k + (ranked (take k at) * b ^ k + plain b (take k less))) → r ≡ sat (number b fewest xs)
 unfolding number
-pattern-told b start s xs at less k r G l q =
+pattern-told b fewest s xs at less k r G l q =
     let c = G .chosen in
     rw (rank-chosen xs, digits-chosen b xs, ← c .places, ← c .marks, ← c .count, ← l) q
 
@@ -56,41 +56,41 @@ written-few xs places next l few h = omega (arith, l, zeros-written xs)
 pub digits-told : (e : ℕ) (xs vs : List ℕ) (k r : ℕ) → Listed xs vs k → r ≡ sat (plain e (take k vs)) → r ≡ sat (plain e xs)
 digits-told e xs vs k r L q = rw (← L .made) q
 
-pub last-told : (e b start next : ℕ) (xs : List ℕ) (x r : ℕ) → next ≡ 0 → x ≡ sat (plain e xs) → r ≡ x - 1 → Close (Field.told e b start next xs) r
-last-told e b start next xs x r z q t =
-    rw (told-last e b start next z xs) (record { exact = λ h. omega (arith, q, t); large = λ h. omega (arith, q, t) })
+pub last-told : (e b fewest next : ℕ) (xs : List ℕ) (x r : ℕ) → next ≡ 0 → x ≡ sat (plain e xs) → r ≡ x - 1 → Close (Field.told e b fewest next xs) r
+last-told e b fewest next xs x r z q t =
+    rw (told-last e b fewest next z xs) (record { exact = λ h. omega (arith, q, t); large = λ h. omega (arith, q, t) })
 
-pub before-told : (e b start next : ℕ) (xs : List ℕ) (r : ℕ) → next ≢ 0 → r ≡ sat (number b start xs) → Close (Field.told e b start next xs) r
-before-told e b start next xs r d q =
-    rw (told-before e b start next xs (lt-of-le-ne (omega arith) (λ z. d (sym z)))) (record { exact = λ h. omega (arith, q); large = λ h. omega (arith, q) })
+pub before-told : (e b fewest next : ℕ) (xs : List ℕ) (r : ℕ) → next ≢ 0 → r ≡ sat (number b fewest xs) → Close (Field.told e b fewest next xs) r
+before-told e b fewest next xs r d q =
+    rw (told-before e b fewest next xs (lt-of-le-ne (omega arith) (λ z. d (sym z)))) (record { exact = λ h. omega (arith, q); large = λ h. omega (arith, q) })
 
 -- What is judged at a place whose marked groups are its places.
 module _ {s : Shape} {h : List ℕ} (G : Granted s h) (i : ℕ) (l : i < s .t) (xs : List ℕ) (many : length xs ≡ getD (countsOf s) i 0) where
-  pub judged-is : (e b start next x : ℕ) (r : Field.Reading) → e ≡ 2 ^ s .m - 1 → b ≡ Field.base e i → start ≡ Field.start (firstOf s) i →
+  pub judged-is : (e b fewest next x : ℕ) (r : Field.Reading) → e ≡ 2 ^ s .m - 1 → b ≡ Field.base e i → fewest ≡ Field.fewest (firstOf s) i →
       next ≡ getD (countsOf s) (suc i) 0 →
-      Close (Field.told e b start next xs) x → Ranged i (s .v) x r →
+      Close (Field.told e b fewest next xs) x → Ranged i (s .v) x r →
       (gs : List ℕ) → Field.carriers (2 ^ s .m - 1) i gs ≡ xs → r ≡ Field.judged (2 ^ s .m - 1) (firstOf s) (countsOf s) (rangesOf s) gs i
-  judged-is e b start next x r p q o n C R gs c =
+  judged-is e b fewest next x r p q o n C R gs c =
       let f = 2 ^ s .m - 1 in
       let v = range-at s i l in
-      let y = Field.told f (Field.base f i) (Field.start (firstOf s) i) (getD (countsOf s) (suc i) 0) xs in
-      let same : Field.told e b start next xs ≡ y = rw (q, p, o, n) in
+      let y = Field.told f (Field.base f i) (Field.fewest (firstOf s) i) (getD (countsOf s) (suc i) 0) xs in
+      let same : Field.told e b fewest next xs ≡ y = rw (q, p, o, n) in
       elim (le-or-lt (s .v) x) [
         | inl beyond ↦
             R .outside beyond ∙ sym
-            (judged-beyond f (firstOf s) (countsOf s) (rangesOf s) gs xs i y c many refl (omega (arith, v, same, G .v-high, far beyond)))
+            (judged-beyond f (firstOf s) (countsOf s) (rangesOf s) gs xs i y c many refl (omega (arith, v, same, G .bounds .v-high, far beyond)))
         | inr inside ↦
-            let t : x ≡ Field.told e b start next xs = C .exact (omega (arith, G .v-high)) in
+            let t : x ≡ Field.told e b fewest next xs = C .exact (omega (arith, G .bounds .v-high)) in
             R .inside inside ∙ sym (judged-reads f (firstOf s) (countsOf s) (rangesOf s) gs xs i x c many (sym same ∙ sym t) (omega (arith, v)))
       ]
     where
-      far : s .v ≤ x → s .v ≤ Field.told e b start next xs
-      far h = elim (le-or-lt (2 ^ 56) x) [ inl k ↦ omega (arith, C .large k, G .v-high) | inr k ↦ omega (arith, C .exact k) ]
+      far : s .v ≤ x → s .v ≤ Field.told e b fewest next xs
+      far h = elim (le-or-lt (2 ^ 56) x) [ inl k ↦ omega (arith, C .large k, G .bounds .v-high) | inr k ↦ omega (arith, C .exact k) ]
 
 -- The field's groups among those of the words: the groups behind them are erased.
 module _ {s : Shape} {h : List ℕ} (G : Granted s h) {n : ℕ} {words : List ℕ} (H : Holds s n words) where
   pub full : 2 ^ s .m - 1 ≡ suc (2 ^ s .m - 2)
-  full = omega (arith, pow-mono (G .m-low))
+  full = omega (arith, pow-mono (G .bounds .m-low))
 
   pub same-zeros : Field.zeros (frontGroups (s .m) n words) ≡ Field.zeros (fieldGroups s n words)
   same-zeros = ap Field.zeros (H .padded) ∙ rw full (zeros-padded (2 ^ s .m - 2) (wordGroups (s .m) * n - widthOf s) (fieldGroups s n words))
@@ -106,7 +106,7 @@ module _ {s : Shape} {h : List ℕ} (G : Granted s h) {n : ℕ} {words : List �
       (Pickable (s .m) n words marks) × (frontAt (s .m) n marks words ≡ fieldGroups s n words)
   first-marked {marks} F =
       let q : frontAt (s .m) n marks words ≡ fieldGroups s n words = F .held words (H .long) ∙ rw width in (
-        front-pickable (s .m) n words marks (G .m-low) (G .m-high) (H .ends .few) (H .long) (getD h 0 0) F (G .small 0),
+        front-pickable (s .m) n words marks (G .bounds .m-low) (G .bounds .m-high) (H .ends .few) (H .long) (getD h 0 0) F (G .small 0),
         q,
       )
 
@@ -161,7 +161,7 @@ module _ {s : Shape} {h : List ℕ} (G : Granted s h) {n : ℕ} {words : List �
             (Pickable (s .m) n words marks) × (length (frontAt (s .m) n marks words) ≡ getD (countsOf s) i 0)
             × (getD (countsOf s) (suc i) 0 ≤ Field.zeros (frontAt (s .m) n marks words))
         later-marked right = (
-          seen-pickable (s .m) n words marks (G .m-low) (G .m-high) (H .ends .few) (H .long) seen W (omega (arith, right, G .small i)),
+          seen-pickable (s .m) n words marks (G .bounds .m-low) (G .bounds .m-high) (H .ends .few) (H .long) seen W (omega (arith, right, G .small i)),
           sym many ∙ right ∙ G .each i,
           rw (W .held, unerased-zeros (2 ^ s .m - 1) (frontGroups (s .m) n words) (omega (arith, full)), same-zeros) zeros-left,
         )
@@ -169,7 +169,7 @@ module _ {s : Shape} {h : List ℕ} (G : Granted s h) {n : ℕ} {words : List �
 -- Cells loaded into words, and the reply to what they read as.
 module _ {s : Shape} {h : List ℕ} (G : Granted s h) (bs : List ℕ) where
   pub past-asks : (0 < s .t) × (s .t ≤ 16) × (length (take (s .t) h) ≡ s .t)
-  past-asks = (omega (arith, G .t-low), G .t-high, rw (G .list) (G .many))
+  past-asks = (omega (arith, G .bounds .t-low), G .bounds .t-high, rw (G .list) (G .many))
 
   pub sound-width : (o : ℕ) → o ≡ orderOf s → sound o (s .m) (getD h 0 0) bs ≡ sound (orderOf s) (s .m) (widthOf s) bs
   unfolding widthOf
@@ -180,7 +180,7 @@ module _ {s : Shape} {h : List ℕ} (G : Granted s h) (bs : List ℕ) where
 
   module _ (f : sound (orderOf s) (s .m) (widthOf s) bs ≡ true) where
     pub loadable : (o : ℕ) → o ≡ orderOf s → Loadable o (s .m) (getD h 0 0) bs
-    loadable o q = record { low = G .m-low; high = G .m-high; some = G .some; few = G .small 0; fit = sound-width o q ∙ f }
+    loadable o q = record { low = G .bounds .m-low; high = G .bounds .m-high; some = G .some; few = G .small 0; fit = sound-width o q ∙ f }
 
     module _ {o n : ℕ} {words : List ℕ} (q : o ≡ orderOf s) (L : Loaded o (s .m) (getD h 0 0) bs words n) where
       pub loaded-groups : fieldGroups s n words ≡ opened (orderOf s) (s .m) (widthOf s) bs
@@ -195,8 +195,8 @@ module _ {s : Shape} {h : List ℕ} (G : Granted s h) (bs : List ℕ) where
       loaded-holds = record {
         long = L .long;
         ends = record {
-          wide = G .m-low;
-          narrow = G .m-high;
+          wide = G .bounds .m-low;
+          narrow = G .bounds .m-high;
           some = L .some;
           few = L .few;
           above = rw (← G .each 0) (L .tight);

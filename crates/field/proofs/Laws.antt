@@ -11,7 +11,7 @@ use borrow.Author.Tests.{le-leb, lt-leb}
 use mathlib.Core.Logic.{_≢_}
 use Rattle.code.specs.declared.Shape.{Shape}
 use Rattle.code.specs.Shape.{countsOf}
-use Rattle.code.specs.Field.{past, base, start}
+use Rattle.code.specs.Field.{past, base, fewest}
 use Rattle.layout.specs.Plan.{Granted}
 
 -- n generations are passed, and what is left of the list says how many more
@@ -53,11 +53,11 @@ unfolding base
 base-later e zero d = absurd (d refl)
 base-later e (suc n) d = refl
 
-pub start-first : (first n : ℕ) → n ≡ 0 → first ≡ start first n
-unfolding start
-start-first first n z = rw z
+pub fewest-first : (first n : ℕ) → n ≡ 0 → first ≡ fewest first n
+unfolding fewest
+fewest-first first n z = rw z
 
-pub start-later : (first n : ℕ) → n ≢ 0 → 1 ≡ start first n
-unfolding start
-start-later first zero d = absurd (d refl)
-start-later first (suc n) d = refl
+pub fewest-later : (first n : ℕ) → n ≢ 0 → 1 ≡ fewest first n
+unfolding fewest
+fewest-later first zero d = absurd (d refl)
+fewest-later first (suc n) d = refl

@@ -22,8 +22,8 @@ use Rattle.field.specs.Answers.{fieldGroups, Holds, Ready, Carries}
 use Rattle.field.proofs.Judging.{full}
 
 -- a dealt pattern has so many places, of values up to b
-pub dealt-is : (b start s x : ℕ) → 0 < b → x < fewer b s start (suc s) → (length (deal b start s x) ≡ s) × Upto b (deal b start s x)
-dealt-is b start s x pos h = let d = deal-is b start s s x pos (omega arith) h in (d .long, d .small)
+pub dealt-is : (b fewest s x : ℕ) → 0 < b → x < fewer b s fewest (suc s) → (length (deal b fewest s x) ≡ s) × Upto b (deal b fewest s x)
+dealt-is b fewest s x pos h = let d = deal-is b fewest s s x pos (omega arith) h in (d .long, d .small)
 
 pub digits-are : (e s x : ℕ) → 0 < e → x < e ^ s → (length (plainly e s x) ≡ s) × Upto e (plainly e s x)
 digits-are e s x pos h = let d = plainly-is e s x pos h in (d .long, upto-grows (e - 1) e (omega arith) (plainly e s x) (d .small))
@@ -56,10 +56,10 @@ module _ {s : Shape} {h : List ℕ} (G : Granted s h) {n : ℕ} {words : List �
     code-ready (suc j) q = let w : getD (countsOf s) i 0 ≤ Field.zeros (fieldGroups s n words) = omega (arith, R .enough, R .none) in rw q at w
 
     -- what is laid into them makes the groups that the rules leave
-    pub put-is : (x : ℕ) (ps after : List ℕ) →
-        ps ≡ Field.pattern (2 ^ s .m - 1) (Field.base (2 ^ s .m - 1) i) (Field.start (firstOf s) i) (getD (countsOf s) i 0) (getD (countsOf s) (suc i) 0) x →
+    pub laid-over : (x : ℕ) (ps after : List ℕ) →
+        ps ≡ Field.pattern (2 ^ s .m - 1) (Field.base (2 ^ s .m - 1) i) (Field.fewest (firstOf s) i) (getD (countsOf s) i 0) (getD (countsOf s) (suc i) 0) x →
         Layered (s .m) n ps erased after → Carries s n (Field.after (2 ^ s .m - 1) (firstOf s) (countsOf s) i x (fieldGroups s n words)) after
-    put-is x ps after q L =
+    laid-over x ps after q L =
         let gs = fieldGroups s n words in
         let k = z - getD h i 0 in
         let cleared = Field.erase (2 ^ s .m - 1) k gs in

@@ -58,7 +58,7 @@ module _ {s : Shape} {h : List ℕ} (G : Granted s h) (x : ℕ) (b : x < s .v) (
       let w = first-write s (G .ok) x gs reading b in
       let full : getD (countsOf s) 0 0 ≤ z = omega (arith, none, long, blank-zeros gs (w .1)) in
       rw first (record {
-        low = omega (arith, G .t-low);
+        low = omega (arith, G .bounds .t-low);
         ready = record { none = none; blank = λ _. w .1; enough = full };
         made = w .0;
         readable =

@@ -78,8 +78,8 @@ fn base(e: u64, i: usize) -> u64
     if i == 0 { e } else { e - 1 }
 }
 
-fn start(s: Shape, i: usize) -> u64
-    ensures { λ r. ⌜ (r ≡ Field.start (firstOf s) i) × (r ≤ 1) ⌝ }
+fn fewest(s: Shape, i: usize) -> u64
+    ensures { λ r. ⌜ (r ≡ Field.fewest (firstOf s) i) × (r ≤ 1) ⌝ }
 {
     if i == 0 { layout::first(s) } else { 1 }
 }
@@ -92,15 +92,15 @@ fn tell_pattern(
     m: usize,
     places: u64,
     b: u64,
-    start: u64,
+    fewest: u64,
 ) -> u64
-    requires { ⌜ (Pickable m n (now words) (now marks)) × (places ≡ length (frontAt m n (now marks) (now words))) × (written (frontAt m n (now marks) (now words)) ≤ patternMost) × (1 < b) × (b ≤ 15) × (start ≤ 1) ⌝ }
-    ensures { λ r. ⌜ r ≡ sat (number b start (frontAt m n (now (marks .entry)) (now (words .entry)))) ⌝ }
+    requires { ⌜ (Pickable m n (now words) (now marks)) × (places ≡ length (frontAt m n (now marks) (now words))) × (written (frontAt m n (now marks) (now words)) ≤ patternMost) × (1 < b) × (b ≤ 15) × (fewest ≤ 1) ⌝ }
+    ensures { λ r. ⌜ r ≡ sat (number b fewest (frontAt m n (now (marks .entry)) (now (words .entry)))) ⌝ }
 {
     let mut labels = [0u8; 64];
     let mut values = [0u8; 64];
     let k = words::gather(words, marks, n, m, places, &mut labels, &mut values);
-    dealing::number(&labels, &values, k, places, b, start)
+    dealing::number(&labels, &values, k, places, b, fewest)
 }
 
 // The number that the marked groups make as digits.
@@ -128,18 +128,18 @@ fn tell(
     places: u64,
     e: u64,
     b: u64,
-    start: u64,
+    fewest: u64,
     next: u64,
 ) -> u64
     requires { ⌜ (Pickable m n (now words) (now marks)) × (places ≡ length (frontAt m n (now marks) (now words))) ⌝ }
-    requires { ⌜ (0 < e) × (e ≤ 15) × (1 < b) × (b ≤ 15) × (start ≤ 1) ⌝ }
+    requires { ⌜ (0 < e) × (e ≤ 15) × (1 < b) × (b ≤ 15) × (fewest ≤ 1) ⌝ }
     requires { ⌜ (places ≤ next + patternMost) × (next ≤ Field.zeros (frontAt m n (now marks) (now words))) ⌝ }
-    ensures { λ r. ⌜ Close (Field.told e b start next (frontAt m n (now (marks .entry)) (now (words .entry)))) r ⌝ }
+    ensures { λ r. ⌜ Close (Field.told e b fewest next (frontAt m n (now (marks .entry)) (now (words .entry)))) r ⌝ }
 {
     if next == 0 {
         return less_one(tell_digits(words, marks, n, m, e));
     }
-    tell_pattern(words, marks, n, m, places, b, start)
+    tell_pattern(words, marks, n, m, places, b, fewest)
 }
 
 // The reading of the number x at place i, where it is in range.
@@ -180,7 +180,7 @@ fn judge_at(
         h[i],
         e,
         base(e, i),
-        start(s, i),
+        fewest(s, i),
         next,
     );
     ranged(i, s.v, x)
@@ -377,16 +377,16 @@ fn lay_dealt(
     m: usize,
     places: u64,
     b: u64,
-    start: u64,
+    fewest: u64,
     x: u64,
 )
     requires { ⌜ (ZeroMarked m n (now words) (now marks)) × (places ≡ Field.zeros (frontGroups m n (now words))) × (places ≤ 256) ⌝ }
-    requires { ⌜ (0 < b) × (b ≤ 15) × (b ≤ 2 ^ m - 1) × (start ≤ 1) × (x < cap) × (x < fewer b places start (suc places)) ⌝ }
-    ensures { λ _. ⌜ Layered m n (deal b start places x) (now (words .entry)) (now (words .exit)) ⌝ }
+    requires { ⌜ (0 < b) × (b ≤ 15) × (b ≤ 2 ^ m - 1) × (fewest ≤ 1) × (x < cap) × (x < fewer b places fewest (suc places)) ⌝ }
+    ensures { λ _. ⌜ Layered m n (deal b fewest places x) (now (words .entry)) (now (words .exit)) ⌝ }
 {
     let mut labels = [0u8; 64];
     let mut values = [0u8; 64];
-    let k = dealing::deal(&mut labels, &mut values, places, b, start, x);
+    let k = dealing::deal(&mut labels, &mut values, places, b, fewest, x);
     words::lay(words, marks, n, m, places, &labels, &values, k);
 }
 
@@ -399,23 +399,23 @@ fn lay_number(
     places: u64,
     e: u64,
     b: u64,
-    start: u64,
+    fewest: u64,
     next: u64,
     x: u64,
 )
     requires { ⌜ (ZeroMarked m n (now words) (now marks)) × (places ≡ Field.zeros (frontGroups m n (now words))) × (places ≤ 256) × (places ≤ next + patternMost) ⌝ }
-    requires { ⌜ (0 < e) × (e ≤ 15) × (e ≡ 2 ^ m - 1) × (0 < b) × (b ≤ e) × (start ≤ 1) × (x < cap) × (x < room e b start places next) ⌝ }
-    ensures { λ _. ⌜ Layered m n (Field.pattern e b start places next x) (now (words .entry)) (now (words .exit)) ⌝ }
+    requires { ⌜ (0 < e) × (e ≤ 15) × (e ≡ 2 ^ m - 1) × (0 < b) × (b ≤ e) × (fewest ≤ 1) × (x < cap) × (x < room e b fewest places next) ⌝ }
+    ensures { λ _. ⌜ Layered m n (Field.pattern e b fewest places next x) (now (words .entry)) (now (words .exit)) ⌝ }
 {
     if next == 0 {
         lay_plain(words, marks, n, m, places, e, x + 1);
         return;
     }
-    lay_dealt(words, marks, n, m, places, b, start, x);
+    lay_dealt(words, marks, n, m, places, b, fewest, x);
 }
 
 // Erases what was used and what is spare, z groups being zero, and lays the pattern of x at place i.
-fn put(
+fn erase_and_lay(
     h: &[u64; 16],
     s: Shape,
     i: usize,
@@ -442,7 +442,7 @@ fn put(
         places,
         e,
         base(e, i),
-        start(s, i),
+        fewest(s, i),
         next,
         x,
     );
@@ -464,7 +464,7 @@ fn write_at(
     requires { ⌜ (Holds s n (now words)) × (Ready s i z (fieldGroups s n (now words))) × (sound (orderOf s) (s .m) (widthOf s) (now cells) ≡ true) ⌝ }
     ensures { λ r. ⌜ Stored (orderOf s) (s .m) (Field.after (2 ^ s .m - 1) (firstOf s) (countsOf s) i x (fieldGroups s n (now (words .entry)))) (now (cells .entry)) (now (cells .exit)) r ⌝ }
 {
-    put(h, s, i, x, z, words, n, marks);
+    erase_and_lay(h, s, i, x, z, words, n, marks);
     cells::store(cells, layout::order(s), s.m as usize, h[0] as usize, words)
 }
 

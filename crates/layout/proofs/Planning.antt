@@ -7,7 +7,7 @@ use Rattle.code.specs.declared.Shape.{Shape}
 use Rattle.code.specs.Shape.{firstOf, rangesOf, countsOf, widthOf}
 use Rattle.code.specs.Calls.{filled, layoutFields, layoutRefusal, layoutReply}
 use Rattle.code.proofs.Conditions.{holds-falls, head-most}
-use Rattle.code.proofs.LayoutCall.{within, fits, is-layout, counts-length, reply-number, reply-none, reply-counts, reply-count}
+use Rattle.code.proofs.LayoutCall.{bounded, fits, is-layout, counts-length, reply-number, reply-none, reply-counts, reply-count}
 use Rattle.layout.specs.Plan.{Granted}
 
 module _ (s : Shape) {k : ℕ} {h : List ℕ} (right : k ∷ h ≡ filled layoutFields (layoutReply s 256)) where
@@ -18,18 +18,12 @@ module _ (s : Shape) {k : ℕ} {h : List ℕ} (right : k ∷ h ≡ filled layout
   unfolding countsOf widthOf
   plan-granted z =
       let ok = reply-none s 256 k h right z in
-      let w = within s ok in
       let y = is-layout s ok in
       let each = reply-count s 256 k h right z in
       let e = 2 ^ s .m - 1 in
       record {
         ok = ok;
-        m-low = w .m-low;
-        m-high = w .m-high;
-        t-low = w .t-low;
-        t-high = w .t-high;
-        v-low = w .v-low;
-        v-high = w .v-high;
+        bounds = bounded s ok;
         list = reply-counts s 256 k h right z;
         many = counts-length s ok;
         each = each;

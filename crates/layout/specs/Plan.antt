@@ -1,10 +1,10 @@
 -- A layout worked out, and what is known where it is granted.
-use Prim.Native.Nat.{ℕ, _^_, _<_, _≤_}
+use Prim.Native.Nat.{ℕ, _<_, _≤_}
 use mathlib.Core.Path.{_≡_}
 use mathlib.Core.List.{List, [], _∷_}
 use lib.ListN.{length, getD, take}
 use Rattle.code.specs.declared.Shape.{Shape}
-use Rattle.code.specs.Shape.{countsOf}
+use Rattle.code.specs.Shape.{Bounds, countsOf}
 use Rattle.code.specs.Calls.{filled, layoutFields, layoutRefusal, layoutReply}
 use Rattle.layout.specs.declared.Plan.{Plan}
 
@@ -15,12 +15,7 @@ pub record Planned (p : Plan) (h : List ℕ) : Type 0 where
 -- a shape is within its bounds, and h holds its granted counts and 0 behind them
 pub record Granted (s : Shape) (h : List ℕ) : Type 0 where
   pub ok : layoutRefusal s 256 ≡ []
-  pub m-low : 2 ≤ s .m
-  pub m-high : s .m ≤ 4
-  pub t-low : 2 ≤ s .t
-  pub t-high : s .t ≤ 16
-  pub v-low : 2 ≤ s .v
-  pub v-high : s .v ≤ 2 ^ 56
+  pub bounds : Bounds s
   pub list : take (s .t) h ≡ countsOf s
   pub many : length (countsOf s) ≡ s .t
   pub each : (n : ℕ) → getD h n 0 ≡ getD (countsOf s) n 0

@@ -5,6 +5,6 @@ use Rattle.records.specs.declared.Head.{Head}
 use Rattle.records.specs.declared.Head.the-variants.{Whole, Malformed}
 
 -- as a step of the walk: "7 also the offset of the record's first byte"
-abbrev pub stepOf : Head → Step
-stepOf (Whole r) = taken r
-stepOf (Malformed offset) = stopped 7 (offset ∷ [])
+abbrev pub headStep : Head → Step
+headStep (Whole r) = taken r
+headStep (Malformed offset) = stopped 7 (offset ∷ [])

@@ -9,7 +9,7 @@ ghost use lib.ListN.{length, take, drop};
 ghost use Rattle.code.specs.Lists.{Below};
 ghost use Rattle.code.specs.Dump.{readNumbers, recordOf, recordAt};
 ghost use Rattle.storing.specs.Put.{fronted};
-ghost use Rattle.records.specs.Head.{stepOf};
+ghost use Rattle.records.specs.Head.{headStep};
 
 pub enum Head {
     Whole(Record),
@@ -17,7 +17,7 @@ pub enum Head {
 }
 
 pub fn read_head(dump: &[u8], at: usize) -> Head
-    ensures { λ r. ⌜ stepOf r ≡ recordAt (now (dump .entry)) at (readNumbers 5 (now (dump .entry)) at) ⌝ }
+    ensures { λ r. ⌜ headStep r ≡ recordAt (now (dump .entry)) at (readNumbers 5 (now (dump .entry)) at) ⌝ }
 {
     let mut numbers = [0u64; 5];
     let Numbers::Read { end } = numerals::read_numbers(dump, at, &mut numbers) else {

@@ -10,7 +10,7 @@ use lib.Seq.{take-suc, take-nil, length-take-le, getD-drop, getD-take}
 use Rattle.code.specs.Chosen.{patternMost}
 use Rattle.code.specs.Field.{zeros}
 use Rattle.code.specs.Lists.{Upto}
-use Rattle.words.specs.Marks.{groupsIn, topOf, Blanks, Filled}
+use Rattle.words.specs.Marks.{groupsIn, topOf, Blanks, WordLaid}
 use Rattle.words.proofs.Laying.{Laying, laying-none, laying-ones, laying-some, laying-more, laying-all}
 
 upto-at : (e : ℕ) (xs : List ℕ) (i : ℕ) → i < length xs → Upto e xs → getD xs i 0 ≤ e
@@ -81,7 +81,7 @@ module _ {m w : ℕ} {values : List ℕ} {at word left i : ℕ} (C : Digits m w 
     pub digits-fits : word + getD values i 0 * 2 ^ topOf left < 2 ^ 64
     digits-fits = laying-all (digits-more .laid) .2
 
-  pub digits-all : left ≡ 0 → Filled m w (take (zeros (groupsIn m w)) (drop at values)) word × (i ≡ at + zeros (groupsIn m w))
+  pub digits-all : left ≡ 0 → WordLaid m w (take (zeros (groupsIn m w)) (drop at values)) word × (i ≡ at + zeros (groupsIn m w))
   unfolding ones onesIn
   digits-all z =
       let o : ones left ≡ 0 = rw z in

@@ -15,7 +15,7 @@ use Rattle.code.specs.Deal.{written}
 use Rattle.code.specs.Field.{zeros}
 use Rattle.code.proofs.Chosen.{labels-many, labels-below}
 use Rattle.words.specs.Words.{groupsOf, groupsAt, wordGroups, frontAt}
-use Rattle.words.specs.Marks.{Marked, start, skip, mark, Marks, marksOf, nonzeroGroup, picked}
+use Rattle.words.specs.Marks.{Marked, bare, skip, mark, Marks, marksOf, nonzeroGroup, picked}
 use Rattle.words.specs.Marks.{groupIn, lessIn, labelIn, writtenMarks, topOf, Leftover, Added, Pickable, Gathered}
 use Rattle.code.specs.Lists.{Below}
 use Rattle.words.proofs.Sizes.{word-fits}
@@ -92,7 +92,7 @@ module _ (m w : ℕ) (rest : List ℕ) (f : ℕ → ℕ) where
   written-at : {n o : ℕ} → 0 < m → Marked m n o → ((j : ℕ) → j < n → f (m * j) ≡ labelIn (length rest) o (m * j))
       → Written n o (bitAnd (marksOf m nonzeroGroup (groupsOf m n w)) o)
   unfolding marksOf groupsOf groupsAt picked zeros
-  written-at pos start q = rw (and-zero-l 0) (record { marked = start; places = refl; less = refl; some = refl })
+  written-at pos bare q = rw (and-zero-l 0) (record { marked = bare; places = refl; less = refl; some = refl })
   written-at pos (skip {n} {o} k) q =
       let gs = groupsOf m n w in
       let l = marked-lt m pos (marks-marked m pos n w nonzeroGroup) in

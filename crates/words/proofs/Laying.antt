@@ -13,7 +13,7 @@ use Rattle.code.specs.Field.{zeros, erase, lay}
 use Rattle.code.specs.Lists.{Upto}
 use Rattle.code.proofs.Groups.{erase-zeros, erase-length, lay-length}
 use Rattle.words.specs.Words.{allGroups, wordBytes, wordGroups, frontGroups, Tidy}
-use Rattle.words.specs.Marks.{blanksTo, groupsIn, marksOf, zeroGroup, wordMarks, topOf, stripped, ZeroMarked, Blanks, Filled, Layered}
+use Rattle.words.specs.Marks.{blanksTo, groupsIn, marksOf, zeroGroup, wordMarks, topOf, stripped, ZeroMarked, Blanks, WordLaid, Layered}
 use Rattle.words.proofs.Sizes.{word-fits}
 use Rattle.words.proofs.Masks.{groups-long, marks-lt}
 use Rattle.words.proofs.Front.{front-more, front-set}
@@ -163,7 +163,7 @@ module _ {m : ℕ} {ps before : List ℕ} {i : ℕ} {ws : List ℕ} (C : Laid m 
   zeros-next at at′ a b = omega (arith, zeros-more)
 
   pub laid-more : (x at : ℕ) → at ≡ blanksTo m i before → at ≤ length ps
-      → Filled m (getD ws i 0) (take (zeros (groupsIn m (getD ws i 0))) (drop at ps)) x → Laid m ps before (i + 1) (set ws i x)
+      → WordLaid m (getD ws i 0) (take (zeros (groupsIn m (getD ws i 0))) (drop at ps)) x → Laid m ps before (i + 1) (set ws i x)
   laid-more x at a l F =
       let front = frontGroups m i before in
       let gs = groupsIn m (getD ws i 0) in

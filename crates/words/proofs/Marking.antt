@@ -8,7 +8,7 @@ use lib.Pow.{pow-add, pow-mono, high}
 use lib.ListN.{length, getD, set, take, length-set}
 use lib.Seq.{take-all, take-append-add}
 use Rattle.words.specs.Words.{groupsOf, allGroups, wordBytes, wordGroups, frontGroups, groupsAt, allAt, frontAt}
-use Rattle.words.specs.Marks.{Marked, start, skip, mark, AllMarks, lows, wordLows, Ends, Fronted}
+use Rattle.words.specs.Marks.{Marked, bare, skip, mark, AllMarks, lows, wordLows, Ends, Fronted}
 use Rattle.words.proofs.Sizes.{word-fits}
 use Rattle.words.proofs.Masks.{lows-lt, groups-long}
 use Rattle.words.proofs.Picked.{marked-lt, at-mark, at-none}
@@ -28,7 +28,7 @@ pub record Leading (m a n o : ℕ) : Type 0 where
 
 module _ (m : ℕ) (pos : 0 < m) where
   unmarked : (n : ℕ) → Marked m n 0
-  unmarked zero = start
+  unmarked zero = bare
   unmarked (suc n) = skip (unmarked n)
 
   leading-none : (n : ℕ) → Leading m 0 n 0

@@ -10,7 +10,7 @@ use lib.Seq.{take-all, drop-drop, set-getD}
 use Rattle.code.specs.Field.{zeros, lay}
 use Rattle.code.specs.Lists.{Upto}
 use Rattle.code.specs.Chosen.{labels, scattered, Chosen}
-use Rattle.words.specs.Marks.{blanksTo, groupsIn, ZeroMarked, Blanks, Filled, Layered, Remaining, restOf, Scattered}
+use Rattle.words.specs.Marks.{blanksTo, groupsIn, ZeroMarked, Blanks, WordLaid, Layered, Remaining, restOf, Scattered}
 use Rattle.words.proofs.Seeing.{zeros-ones}
 use Rattle.words.proofs.Laying.{lay-nothing, zeros-none, zeros-next, Laid, laid-none, laid-more, laid-blanks, laid-few, laid-all}
 use Rattle.words.proofs.Scattering.{scattered-long, rest-is, remaining-some}
@@ -42,7 +42,7 @@ module _ {m n : ℕ} {ps before os : List ℕ} (Z : ZeroMarked m n before os) wh
       let b = laid-blanks Z C h in
       let f = laid-few Z C h at refl in
       let r = drop at ps in
-      let F : Filled m w (take (zeros gs) r) w = record { tidy = b .tidy; made = sym (lay-blank gs r (zeros gs) e) } in
+      let F : WordLaid m w (take (zeros gs) r) w = record { tidy = b .tidy; made = sym (lay-blank gs r (zeros gs) e) } in
       let more = laid-more C (omega (arith, Z .few)) w at refl (omega arith) F in
       let t : blanksTo m (i + 1) before ≡ at + zeros gs = sym (zeros-next C (omega (arith, Z .few)) at (at + zeros gs) refl refl) in
       (rw (set-getD ws i 0) at more, rw (t, ← drop-drop (zeros gs) at ps) (blank-drop r (zeros gs) e))
@@ -110,14 +110,14 @@ module _ {m n : ℕ} {before os : List ℕ} (Z : ZeroMarked m n before os) where
       pub spread-more : (x right at′ : ℕ) → next ≡ right + zeros (groupsIn m (getD ws i 0)) → Scattered m (getD ws i 0) right ls vs k at next x at′
           → Spread m n ps before ls vs k (set ws i x) right at′ (i + 1)
       spread-more x right at′ e S =
-          let filled = rw (rest-is (C .rest)) at (S .filled) in
+          let here = rw (rest-is (C .rest)) at (S .here) in
           let rest = rw (rest-is (C .rest)) at (S .rest) in
           let a = blanksTo m i before in
           let z = zeros (groupsIn m (getD ws i 0)) in
           let f = laid-few Z (C .laid) h a refl in
           let t : blanksTo m (i + 1) before ≡ a + z = sym (zeros-next (C .laid) (omega (arith, Z .few)) a (a + z) refl refl) in
           record {
-            laid = laid-more (C .laid) (omega (arith, Z .few)) x a refl (omega (arith, f, C .long)) filled;
+            laid = laid-more (C .laid) (omega (arith, Z .few)) x a refl (omega (arith, f, C .long)) here;
             long = C .long;
             left = omega (arith, t, C .left);
             rest = rw (t, ← drop-drop z a ps) rest;

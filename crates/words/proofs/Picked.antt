@@ -9,7 +9,7 @@ use lib.Count.{ones, onesIn, ones-cat}
 use lib.Pow.{pow-pos, high, low, field, mod-mod-pow}
 use lib.ListN.{length}
 use Rattle.words.specs.Words.{groupsOf, groupsAt}
-use Rattle.words.specs.Marks.{Marked, start, skip, mark, marksOf, picked, topOf}
+use Rattle.words.specs.Marks.{Marked, bare, skip, mark, marksOf, picked, topOf}
 use Rattle.words.proofs.Highest.{top-is}
 use Rattle.words.proofs.Masks.{twice, groups-long}
 
@@ -20,7 +20,7 @@ groups-picked m (suc n) o w = rw (groups-picked m n o w)
 
 module _ (m : ℕ) (pos : 0 < m) where
   pub marked-lt : {n o : ℕ} → Marked m n o → o < 2 ^ (m * n)
-  marked-lt start = pow-pos (m * 0)
+  marked-lt bare = pow-pos (m * 0)
   marked-lt (skip {n} k) = omega (arith, marked-lt k, twice m n pos)
   marked-lt (mark {n} k) = omega (arith, marked-lt k, twice m n pos)
 
@@ -56,7 +56,7 @@ module _ (m : ℕ) (pos : 0 < m) where
 
     pub marked-ones : {n o : ℕ} → Marked m n o → ones o ≡ length (picked f m n o)
     unfolding picked ones onesIn
-    marked-ones start = refl
+    marked-ones bare = refl
     marked-ones (skip {n} {o} k) = rw (picked-skip n o (marked-lt k)) (marked-ones k)
     marked-ones (mark {n} {o} k) =
         let e : ones (2 ^ (m * n) + o) ≡ ones 1 + ones o = ap (λ (x : ℕ). ones (x + o)) (sym (one-mul (2 ^ (m * n)))) ∙ ones-cat (m * n) 1 o (marked-lt k) in
@@ -82,7 +82,7 @@ module _ (m : ℕ) (pos : 0 < m) where
     pub step : (f : ℕ → ℕ) → picked f m n o ≡ f p ∷ picked f m n (o - 2 ^ p)
 
   topmost : {n o : ℕ} → Marked m n o → 0 < o → (p : ℕ) × Topmost n o p
-  topmost start h = absurd (omega arith)
+  topmost bare h = absurd (omega arith)
   topmost (skip {n} {o} k) h =
       let t = topmost k h in
       let l = marked-lt k in (
@@ -111,7 +111,7 @@ module _ (m : ℕ) (pos : 0 < m) where
   -- the groups that pass a test
   pub marks-marked : (n w : ℕ) (t : ℕ → Bool) → Marked m n (marksOf m t (groupsOf m n w))
   unfolding marksOf groupsOf
-  marks-marked zero w t = start
+  marks-marked zero w t = bare
   marks-marked (suc n) w t = rw (groups-long m n w) (go (t (w / 2 ^ (m * n) % 2 ^ m)) (marks-marked n w t))
     where
       go : (b : Bool) {x : ℕ} → Marked m n x → Marked m (suc n) (cond b 1 0 * 2 ^ (m * n) + x)

@@ -14,7 +14,7 @@ use Rattle.code.specs.Field.{zeros}
 use Rattle.code.specs.Lists.{Upto}
 use Rattle.code.specs.Chosen.{labels, values, scattered}
 use Rattle.code.proofs.Chosen.{scattered-back}
-use Rattle.words.specs.Marks.{groupsIn, topOf, stripped, Blanks, Filled, Remaining, restOf, Scattered}
+use Rattle.words.specs.Marks.{groupsIn, topOf, stripped, Blanks, WordLaid, Remaining, restOf, Scattered}
 use Rattle.words.proofs.Front.{drop-front}
 use Rattle.words.proofs.Highest.{stripped-some}
 use Rattle.words.proofs.Laying.{Laying, laying-none, laying-marks, laying-ones, laying-skip, laying-more, laying-all}
@@ -128,7 +128,7 @@ module _ {m w₀ : ℕ} {ls vs : List ℕ} {k right : ℕ} {all : List ℕ} {wor
 
   -- where no label is left for the word
   pub scattering-all : Ahead right (drop i (take k ls))
-      → Filled m w₀ (take (zeros (groupsIn m w₀)) all) word × Remaining m ls vs k i right (drop (zeros (groupsIn m w₀)) all)
+      → WordLaid m w₀ (take (zeros (groupsIn m w₀)) all) word × Remaining m ls vs k i right (drop (zeros (groupsIn m w₀)) all)
   scattering-all a =
       let R = C .rest in
       let b = behind-is (C .rs) right (omega (arith, R .long, C .from)) (rw (R .places) at a) in
@@ -197,7 +197,7 @@ module _ {m w₀ : ℕ} {ls vs : List ℕ} {k right : ℕ} {all : List ℕ} {wor
 
 pub scattered-word : {m w₀ : ℕ} {ls vs : List ℕ} {k right at next₀ word left next i : ℕ}
     → Scattering m w₀ ls vs k right (restOf ls vs k at next₀) word left next i → Ahead right (drop i (take k ls)) → Scattered m w₀ right ls vs k at next₀ word i
-scattered-word C a = let s = scattering-all C a in record { within = C .within; filled = s .0; rest = s .1 }
+scattered-word C a = let s = scattering-all C a in record { within = C .within; here = s .0; rest = s .1 }
 
 -- where a label is left there is a place
 pub remaining-some : {m : ℕ} {ls vs : List ℕ} {k i next : ℕ} {rs : List ℕ} → Remaining m ls vs k i next rs → i < k → k ≤ length ls → k ≤ length vs → 0 < next

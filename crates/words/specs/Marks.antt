@@ -15,7 +15,7 @@ use Rattle.words.specs.declared.Seen.{Seen}
 
 -- n groups of m bits, from the last to the first, each with a mark or without
 pub data Marked (m : ℕ) : ℕ → ℕ → Type 0 where
-  start : Marked m 0 0
+  bare : Marked m 0 0
   skip : {n o : ℕ} → Marked m n o → Marked m (suc n) o
   mark : {n o : ℕ} → Marked m n o → Marked m (suc n) (2 ^ (m * n) + o)
 
@@ -192,7 +192,7 @@ pub record Blanks (m w o : ℕ) : Type 0 where
   pub marked : o ≡ wordMarks m zeroGroup w
 
 -- the word with values laid into its zero groups
-pub record Filled (m w : ℕ) (ps : List ℕ) (r : ℕ) : Type 0 where
+pub record WordLaid (m w : ℕ) (ps : List ℕ) (r : ℕ) : Type 0 where
   pub tidy : r < 2 ^ (8 * wordBytes m)
   pub made : groupsIn m r ≡ lay (groupsIn m w) ps
 
@@ -219,5 +219,5 @@ restOf at less k i next = scattered next (drop i (take k at)) (drop i (take k le
 -- the first places of that rest are laid into the word w, and those before `right` are left
 pub record Scattered (m w right : ℕ) (at less : List ℕ) (k i next r j : ℕ) : Type 0 where
   pub within : j ≤ k
-  pub filled : Filled m w (take (blanksIn m w) (restOf at less k i next)) r
+  pub here : WordLaid m w (take (blanksIn m w) (restOf at less k i next)) r
   pub rest : Remaining m at less k j right (drop (blanksIn m w) (restOf at less k i next))

@@ -235,7 +235,7 @@ struct Placed {
 fn lay_all(w: u64, marks: u64, m: usize, values: &[u8; PATTERN_MOST], at: usize) -> Placed
     requires { ⌜ Marks.Blanks m w marks × (length (now values) ≡ patternMost) × (at + Marks.blanksIn m w ≤ patternMost) ⌝ }
     requires { ⌜ Lists.Upto (2 ^ m - 1) (take (Marks.blanksIn m w) (drop at (now values))) ⌝ }
-    ensures { λ r. ⌜ Marks.Filled m w (take (Marks.blanksIn m w) (drop at (now (values .entry)))) (r .word) × (r .at ≡ at + Marks.blanksIn m w) ⌝ }
+    ensures { λ r. ⌜ Marks.WordLaid m w (take (Marks.blanksIn m w) (drop at (now (values .entry)))) (r .word) × (r .at ≡ at + Marks.blanksIn m w) ⌝ }
 {
     let mut word = w;
     let mut left = marks;

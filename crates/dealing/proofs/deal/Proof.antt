@@ -10,10 +10,10 @@ use Rattle.dealing.proofs.deal.Statement.{statement}
 use Rattle.dealing.proofs.deal.Tie as tie
 
 abbrev Inv-loop : tie.InvT-loop
-Inv-loop labels values s b start n k₀ power₀ term₀ rest₀ k power term rest = (0 < k) × Splitting b start s n k power term rest
+Inv-loop labels values s b fewest n k₀ power₀ term₀ rest₀ k power term rest = (0 < k) × Splitting b fewest s n k power term rest
 
 abbrev μ-loop : tie.MeasureT-loop
-μ-loop labels values s b start n k₀ power₀ term₀ rest₀ k power term rest = s - k
+μ-loop labels values s b fewest n k₀ power₀ term₀ rest₀ k power term rest = s - k
 
 opened : (c : tie.Else1 Inv-loop μ-loop) → let a = c .before .args in a .s * a .b ≤ 3840
 opened c = let a = c .before .args in mul-le-mul {n₁ = a .s} {m₁ = a .b} {n₂ = 256} {m₂ = 15} (omega arith) (omega arith)
@@ -40,7 +40,7 @@ deal-spec =
     -- returns
     (λ c.
     let a = c .before .args in
-    (chosen-none (a .b) (a .start) (a .s) (a .n) _ _ (omega arith) (c .if1 .taken), (omega arith, c .before .pre .0 .0, c .before .pre .0 .1)))
+    (chosen-none (a .b) (a .fewest) (a .s) (a .n) _ _ (omega arith) (c .if1 .taken), (omega arith, c .before .pre .0 .0, c .before .pre .0 .1)))
     -- mul-term
     (λ c. omega (arith, opened c))
     -- add-rest
@@ -48,7 +48,7 @@ deal-spec =
     -- sub-rest
     (λ c. search needs)
     -- loop-holds
-    (λ c. let a = c .before .args in (omega arith, split-begin (a .b) (a .start) (a .s) (a .n) (omega arith) (opened c) (c .before .pre .1 .5) (omega arith)))
+    (λ c. let a = c .before .args in (omega arith, split-begin (a .b) (a .fewest) (a .s) (a .n) (omega arith) (opened c) (c .before .pre .1 .5) (omega arith)))
     -- next-term-requires
     (λ c κs. let P = passed c in search needs)
     -- mul-power

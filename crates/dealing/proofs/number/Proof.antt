@@ -18,7 +18,7 @@ number-spec =
     (λ c κs.
     let a = c .before .before .args in
     let p = c .before .before .pre .1 in
-    (search needs, omega arith, few (a .b) (a .s) (a .start) (a .k) (p .3) (p .5) (p .1) (omega arith)))
+    (search needs, omega arith, few (a .b) (a .s) (a .fewest) (a .k) (p .3) (p .5) (p .1) (omega arith)))
     -- returns-2
     (λ c.
     let a = c .before .before .before .before .args in

@@ -26,7 +26,7 @@ granted-here c = plan-granted _ (c .before .lay-into .ensures) (omega arith)
 below-here : (c : tie.Else2) →
     let a = c .before .before .before .before .before .before .args in
     Below (2 ^ 63) (a .serial ∷ a .m ∷ a .t ∷ a .v ∷ length (now (a .cells)) ∷ [])
-below-here c = let G = granted-here c in (omega arith, (omega (arith, G .m-high), (omega (arith, G .t-high), (omega (arith, G .v-high), (omega arith, tt)))))
+below-here c = let G = granted-here c in (omega arith, (omega (arith, G .bounds .m-high), (omega (arith, G .bounds .t-high), (omega (arith, G .bounds .v-high), (omega arith, tt)))))
 
 sound-here : (c : tie.After-is-sound) →
     let a = c .before .before .before .before .before .before .before .before .args in
@@ -65,7 +65,7 @@ export-spec =
     -- array-read-is-sound
     (λ c. search needs)
     -- is-sound-requires
-    (λ c κs. let G = granted-here (c .before) in (G .m-high, G .small 0))
+    (λ c κs. let G = granted-here (c .before) in (G .bounds .m-high, G .small 0))
     -- returns-3
     (λ c.
     let s = c .before in

@@ -31,5 +31,5 @@ judge-at-spec =
     let e = c .before .before .before .before .before .before .all-ones .ensures .0 in
     let n = c .before .before .before .before .before .next-count .ensures in
     let o = c .before .before .before .base .ensures .0 in
-    let t = c .before .before .start .ensures .0 in
+    let t = c .before .before .fewest .ensures .0 in
     judged-is (a .pre .0 .0) _ (a .pre .0 .1) _ (a .pre .1 .0) _ _ _ _ _ _ e o t n (c .before .tell .ensures) (c .ranged .ensures)))

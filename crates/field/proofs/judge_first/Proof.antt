@@ -26,7 +26,7 @@ judge-first-spec =
     let G = a .pre .0 in
     let H = a .pre .1 in
     let F = first-marked G H (c .before .mark-all .ensures) in
-    ((G, omega (arith, G .t-low), F .0), (ap length (F .1) ∙ H .many, rw (F .1) (a .pre .3))))
+    ((G, omega (arith, G .bounds .t-low), F .0), (ap length (F .1) ∙ H .many, rw (F .1) (a .pre .3))))
     -- returns
     (λ c.
     let a = c .before .before .before .before .before in (

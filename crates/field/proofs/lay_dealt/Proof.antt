@@ -19,8 +19,8 @@ lay-dealt-spec =
     let p = a .pre in
     let r = c .before .before .before .deal in
     let d = r .ensures in
-    let xs = deal (a .args .b) (a .args .start) (a .args .places) (a .args .x) in
-    let i = dealt-is (a .args .b) (a .args .start) (a .args .places) (a .args .x) (p .1 .0) (p .1 .5) in
+    let xs = deal (a .args .b) (a .args .fewest) (a .args .places) (a .args .x) in
+    let i = dealt-is (a .args .b) (a .args .fewest) (a .args .places) (a .args .x) (p .1 .0) (p .1 .5) in
     let same = pattern-back xs (r .last .0) (r .last .1 .0) (r .result) (a .args .places) (d .0) (i .0) in
     ((p .0 .0, p .0 .1, d .1 .0), ((d .1 .1, d .1 .2), (rw same (d .0), rw same (upto-grows (a .args .b) (2 ^ a .args .m - 1) (p .1 .2) xs (i .1))))))
     -- returns
@@ -28,6 +28,6 @@ lay-dealt-spec =
     let a = c .before .before .before .before .before .before .before in
     let p = a .pre in
     let r = c .before .before .before .before .deal in
-    let xs = deal (a .args .b) (a .args .start) (a .args .places) (a .args .x) in
-    let i = dealt-is (a .args .b) (a .args .start) (a .args .places) (a .args .x) (p .1 .0) (p .1 .5) in
+    let xs = deal (a .args .b) (a .args .fewest) (a .args .places) (a .args .x) in
+    let i = dealt-is (a .args .b) (a .args .fewest) (a .args .places) (a .args .x) (p .1 .0) (p .1 .5) in
     rw (pattern-back xs (r .last .0) (r .last .1 .0) (r .result) (a .args .places) (r .ensures .0) (i .0)) at (c .lay .ensures)))

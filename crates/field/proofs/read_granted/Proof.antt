@@ -24,7 +24,7 @@ read-granted-spec =
     (λ c κs. search needs)
     (λ c. search needs)
     -- is-sound-requires
-    (λ c κs. let G = c .before .before .before .pre in (G .m-high, G .small 0))
+    (λ c κs. let G = c .before .before .before .pre in (G .bounds .m-high, G .small 0))
     -- returns
     (λ c.
     let a = c .before .before .before .before .before in

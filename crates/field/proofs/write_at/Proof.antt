@@ -17,7 +17,7 @@ write-at-spec =
     -- store-requires
     (λ c κs.
     let a = c .before .before .before .before .before .before .before .before in
-    (storable (loadable (a .pre .0 .0) _ (a .pre .1 .2) _ refl), c .before .before .before .before .put .ensures .long))
+    (storable (loadable (a .pre .0 .0) _ (a .pre .1 .2) _ refl), c .before .before .before .before .«erase-and-lay» .ensures .long))
     (λ c. search needs)
     -- returns
     (λ c.
@@ -26,5 +26,5 @@ write-at-spec =
     rw (
       c .before .before .before .before .before .order .ensures,
       stored-groups (width (a .pre .0 .0) (a .pre .1 .0))
-          (c .before .before .before .before .before .before .before .put .ensures),
+          (c .before .before .before .before .before .before .before .«erase-and-lay» .ensures),
     ) at W))

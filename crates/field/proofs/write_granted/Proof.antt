@@ -25,7 +25,7 @@ write-granted-spec =
     (λ c κs. search needs)
     (λ c. search needs)
     -- is-sound-requires
-    (λ c κs. let G = c .before .before .before .before .pre in (G .m-high, G .small 0))
+    (λ c κs. let G = c .before .before .before .before .pre in (G .bounds .m-high, G .small 0))
     (λ c. search needs)
     -- returns
     (λ c.

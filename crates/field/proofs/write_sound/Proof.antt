@@ -29,7 +29,7 @@ write-sound-spec =
     let a = l .before .before .before .before .before in
     let K = l .look-at .ensures .0 in
     let P = placed (a .pre .0) (a .args .x) _ (a .pre .2) (a .pre .1) K _ (sym (aim .aim .given .1) ∙ aim .before .before .take-aim .ensures) in
-    omega (arith, P .low, a .pre .0 .t-high))
+    omega (arith, P .low, a .pre .0 .bounds .t-high))
     (λ c. search needs)
     (λ c. search needs)
     -- returns
