@@ -5,7 +5,7 @@ use Prim.Native.Nat.{ℕ, suc, _+_, _*_, _-_, _^_, _≤_, _<_}
 use native.Mathlib.Omega.{arith}
 use native.Mathlib.Decide.{ℕ-discrete}
 use native.Mathlib.Numerals.{add-one}
-use native.Mathlib.Nat.{mul-suc, mul-assoc, mul-zero, mul-le-mul-left, add-zero, zero-add, mod-eq-of-lt}
+use native.Mathlib.Nat.{mul-suc, mul-assoc, lt-of-mul-lt-mul-left, mul-zero, mul-le-mul-left, add-zero, zero-add, mod-eq-of-lt}
 use lib.Bits.{bitOr, or-shifted}
 use lib.Pow.{ones-lt}
 use lib.ListN.{length, getD, set, take, length-set}
@@ -13,12 +13,13 @@ use lib.Seq.{getD-take, length-take-le, getD-set-same, getD-set-other}
 use Rattle.code.specs.Cells.{wit, value, listed, group}
 use Rattle.code.proofs.Wits.{wit-lt}
 use Rattle.code.proofs.Numbers.{value-lt, value-same, value-none}
+use Rattle.code.proofs.Parts.{value-split}
 use Rattle.code.proofs.Cells.{sound-past}
 use Rattle.words.specs.Words.{allGroups, wordBytes, wordGroups}
 use Rattle.cells.specs.Cells.{Loadable, Loaded}
-use Rattle.cells.proofs.Values.{value-split}
 use Rattle.cells.proofs.Regroup.{all-words, padded, padded-lt, padded-before, padded-ones, padded-groups}
-use Rattle.cells.proofs.Sizes.{word-fits, lt-of-mul, storable, Sizes, sizes-none, sizes-more, wits-at}
+use Rattle.words.proofs.Sizes.{word-fits}
+use Rattle.cells.proofs.Sizes.{storable, Sizes, sizes-none, sizes-more, wits-at}
 
 -- the last word gets its ones
 pad-last : (f : ℕ → ℕ) (b p a d : ℕ) → p + a ≡ b → ((k : ℕ) → b ≤ k → f k ≡ 0) → bitOr (value f p (a + d)) (2 ^ d - 1) ≡ value (padded b f) p (a + d)
@@ -93,7 +94,7 @@ module _ {o m h : ℕ} {bs : List ℕ} (L : Loadable o m h bs) where
           let one : i + 1 ≡ suc i = add-one i in
           let front : m * (n * i) ≡ 8 * at = rw (← mul-assoc m n i, many) (sym (wits-at z)) in
           let back : m * (n * suc i) ≡ 8 * (at + size) = rw (← mul-assoc m n (suc i), many, mul-suc t i) (omega (arith, wits-at z)) in
-          let room : h < suc (n * suc i) = lt-of-mul m h (suc (n * suc i)) (omega (arith, mul-suc m (n * suc i), z .held, L .low)) in
+          let room : h < suc (n * suc i) = lt-of-mul-lt-mul-left m {m = h} {n = suc (n * suc i)} (omega (arith, mul-suc m (n * suc i), z .held, L .low)) in
           let rest : h + (n * suc i - h) ≡ n * suc i = omega arith in
           let vs : List ℕ = take (suc i) us in
           let long : length vs ≡ suc i = length-take-le (suc i) us (rw length-set (omega (arith, C .long, z .within))) in
@@ -105,7 +106,7 @@ module _ {o m h : ℕ} {bs : List ℕ} (L : Loadable o m h bs) where
             some = omega arith;
             few = omega (arith, z .within);
             room = omega arith;
-            tight = let p : suc i - 1 ≡ i = omega arith in rw p (lt-of-mul m (n * i) h (omega (arith, front, z .tight, z .inside)));
+            tight = let p : suc i - 1 ≡ i = omega arith in rw p (lt-of-mul-lt-mul-left m {m = n * i} {n = h} (omega (arith, front, z .tight, z .inside)));
             tidy = λ j k. rw (each j k, z .wide) (value-lt g (8 * wordBytes m * j) (8 * wordBytes m) lt);
             made = rw (all, long, mul-zero n) (rw rest at (padded-groups f m h (n * suc i - h)));
           })

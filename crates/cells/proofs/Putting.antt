@@ -12,10 +12,10 @@ use lib.Seq.{getD-set-same, getD-set-other}
 use Rattle.code.specs.Cells.{wit, value}
 use Rattle.code.proofs.Wits.{wit-lt, wit-past}
 use Rattle.code.proofs.Numbers.{value-same, value-none, value-lt}
-use Rattle.code.proofs.Parts.{value-front}
+use Rattle.code.proofs.Parts.{value-split, value-front}
 use Rattle.cells.specs.Cells.{octet, PutWits, End}
 use Rattle.cells.proofs.Octets.{octet-value, octet-twice}
-use Rattle.cells.proofs.Values.{value-split, value-tells}
+use Rattle.cells.proofs.Values.{value-tells}
 
 pub put-byte : (o : ℕ) (bs : List ℕ) (i x y : ℕ) → i < length bs → y ≡ octet o (x % 256) → PutWits o bs (set bs i y) (8 * i) 8 x
 unfolding wit

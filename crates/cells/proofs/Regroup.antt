@@ -4,16 +4,17 @@ use mathlib.Core.Bool.{Bool, true, false, cond}
 use mathlib.Core.List.{List, [], _∷_, _++_}
 use Prim.Native.Nat.{ℕ, zero, suc, _+_, _*_, _-_, _/_, _%_, _^_, _≤_, _<_}
 use native.Mathlib.Omega.{arith}
-use native.Mathlib.Nat.{mul-suc, mul-zero, mul-assoc, mul-comm, mul-le-mul-left, add-comm, add-suc, suc-add, add-zero, zero-add, pow-succ'}
-use native.Mathlib.Nat.{mod-lt, mod-eq-of-lt, mul-add-div, mul-add-mod-self-left, div-eq-of-lt, div-add-mod, div-lt-iff-lt-mul}
+use native.Mathlib.Nat.{mul-suc, mul-zero, mul-assoc, mul-le-mul-left, add-comm, add-suc, suc-add, add-zero, zero-add, pow-succ'}
+use native.Mathlib.Nat.{mod-lt, mod-eq-of-lt, mul-add-div, mul-add-mod-self-left, div-eq-of-lt}
 use lib.Dec.{ltb}
 use lib.Pow.{pow-pos, field, mod-mod-pow}
 use lib.ListN.{length, getD, replicate}
 use borrow.Author.Tests.{lt-ltb, le-ltb}
 use Rattle.code.specs.Cells.{value, listed, group, groups, witOf}
 use Rattle.code.proofs.Bits.{bit}
-use Rattle.code.proofs.Numbers.{value-same, value-bit, value-is, listed-at}
+use Rattle.code.proofs.Numbers.{value-same, value-is}
 use Rattle.code.proofs.Parts.{value-front}
+use Rattle.code.proofs.Cells.{witOf-lt}
 use Rattle.words.specs.Words.{groupsOf, allGroups}
 
 -- a list in two parts, with the same numbers, and with one number
@@ -86,10 +87,6 @@ padded-groups f m h d =
 
 -- the wits of groups of t wits, or of words of t bits
 module _ (ws : List ℕ) (t : ℕ) (pos : 0 < t) where
-  pub witOf-lt : (k : ℕ) → witOf t ws k < 2
-  unfolding witOf
-  witOf-lt k = omega arith
-
   -- the lower bits of a number
   bit-mod : (x q : ℕ) → q < t → bit q (x % 2 ^ t) ≡ bit q x
   bit-mod x q h =
@@ -100,14 +97,6 @@ module _ (ws : List ℕ) (t : ℕ) (pos : 0 < t) where
 
   pub witOf-value : (i : ℕ) → getD ws i 0 % 2 ^ t ≡ value (witOf t ws) (t * i) t
   unfolding witOf
-  witOf-value i = sym (value-is (witOf t ws) (t * i) t (getD ws i 0 % 2 ^ t) witOf-lt (mod-lt (getD ws i 0) (pow-pos t))
+  witOf-value i = sym (value-is (witOf t ws) (t * i) t (getD ws i 0 % 2 ^ t) (witOf-lt t ws) (mod-lt (getD ws i 0) (pow-pos t))
       (λ d l. rw (mul-add-div pos i d, div-eq-of-lt l, add-zero, mul-add-mod-self-left t i d, mod-eq-of-lt l)
       (sym (bit-mod (getD ws i 0) (t - 1 - d) (omega arith)))))
-
--- groups of wits have those wits
-pub groups-wit : (m h : ℕ) (f : ℕ → ℕ) (w : ℕ) → ((k : ℕ) → f k < 2) → 0 < m → w < m * h → witOf m (groups m h f) w ≡ f w
-unfolding witOf groups group
-groups-wit m h f w b pos l =
-    let r : w % m < m = mod-lt w pos in
-    rw (listed-at (group m f) 0 h (w / m) (div-lt-iff-lt-mul pos .1 (rw (mul-comm h m) l)), zero-add (w / m))
-    (value-bit f (m * (w / m)) (w % m) (m - 1 - w % m) m b (omega arith) ∙ rw div-add-mod)

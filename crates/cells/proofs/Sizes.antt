@@ -1,29 +1,16 @@
 -- The sizes of words and of buffers.
-use mathlib.Core.Path.{_≡_, refl, sym}
+use mathlib.Core.Path.{_≡_, sym}
 use mathlib.Core.List.{List}
-use Prim.Native.Nat.{ℕ, zero, suc, _+_, _*_, _≤_, _<_}
+use Prim.Native.Nat.{ℕ, _+_, _*_, _≤_, _<_}
 use native.Mathlib.Omega.{arith}
 use native.Mathlib.Decide.{decLt}
 use native.Mathlib.Numerals.{add-one}
 use native.Mathlib.Nat.{mul-suc, mul-zero, mul-assoc, mul-le-mul-left}
 use lib.ListN.{length}
 use Rattle.code.proofs.Cells.{sound-length}
-use Rattle.words.specs.Words.{wordBytes, wordGroups}
+use Rattle.words.specs.Words.{wordBytes}
+use Rattle.words.proofs.Sizes.{word-fits}
 use Rattle.cells.specs.Cells.{Loadable, Storable}
-
--- a word's groups fill it, and sixteen words hold a field
-pub word-fits : (m : ℕ) → 2 ≤ m → m ≤ 4 → (m * wordGroups m ≡ 8 * wordBytes m) × (6 ≤ wordBytes m) × (wordBytes m ≤ 8) ×
-    ((h : ℕ) → h ≤ 256 → m * h ≤ 128 * wordBytes m)
-unfolding wordGroups wordBytes
-word-fits zero h l = absurd (omega arith)
-word-fits (suc zero) h l = absurd (omega arith)
-word-fits (suc (suc zero)) h l = (refl, omega arith, omega arith, λ k u. omega arith)
-word-fits (suc (suc (suc zero))) h l = (refl, omega arith, omega arith, λ k u. omega arith)
-word-fits (suc (suc (suc (suc zero)))) h l = (refl, omega arith, omega arith, λ k u. omega arith)
-word-fits (suc (suc (suc (suc (suc m))))) h l = absurd (omega arith)
-
-pub lt-of-mul : (m a b : ℕ) → m * a < m * b → a < b
-lt-of-mul m a b l = elim (decLt a b) [ yes e ↦ e | no e ↦ absurd (omega (arith, mul-le-mul-left {m = b} {n = a} m (omega arith))) ]
 
 pub storable : {o m h : ℕ} {bs : List ℕ} → Loadable o m h bs → Storable m h bs
 storable {o} {m} {h} {bs} L = record { low = L .low; high = L .high; some = L .some; few = L .few; fit = sound-length o m h bs (L .fit) }
@@ -44,7 +31,7 @@ module _ {m h : ℕ} {bs : List ℕ} (S : Storable m h bs) where
   sizes : (size i at : ℕ) → size ≡ wordBytes m → at ≡ size * i → at < length bs → Sizes m h (length bs) size i at
   sizes size i at e s l =
       let f = word-fits m (S .low) (S .high) in
-      let k = f .3 h (S .few) in
+      let k = f .4 h (S .few) in
       record {
         wide = e;
         six = omega (arith, f .1);

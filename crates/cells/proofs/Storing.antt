@@ -5,20 +5,21 @@ use mathlib.Core.List.{List}
 use Prim.Native.Nat.{ℕ, suc, _+_, _*_, _-_, _^_, _/_, _%_, _≤_, _<_}
 use native.Mathlib.Omega.{arith}
 use native.Mathlib.Decide.{decLt}
-use native.Mathlib.Nat.{mul-suc, mul-assoc, mul-zero, add-zero, zero-add}
+use native.Mathlib.Nat.{mul-suc, mul-assoc, lt-of-mul-lt-mul-left, mul-zero, add-zero, zero-add}
 use lib.ListN.{length, getD, take}
 use lib.Seq.{take-at}
 use Rattle.code.specs.Cells.{wit, value, listed, group, groups, witOf, stored, turned}
 use Rattle.code.proofs.Wits.{Bytes, wit-lt, wit-ext}
 use Rattle.code.proofs.Numbers.{value-same, value-none, listed-length}
-use Rattle.code.proofs.Parts.{value-front}
-use Rattle.code.proofs.Cells.{sound-past, stored-wit, stored-length, stored-sound, stored-bytes}
+use Rattle.code.proofs.Parts.{value-split, value-front}
+use Rattle.code.proofs.Cells.{groups-wit, witOf-lt, sound-past, stored-wit, stored-length, stored-sound, stored-bytes}
 use Rattle.words.specs.Words.{allGroups, wordBytes, wordGroups}
 use Rattle.cells.specs.Cells.{Storable, Swapped, Stored}
-use Rattle.cells.proofs.Values.{value-split, value-tells, shift-left}
+use Rattle.cells.proofs.Values.{value-tells, shift-left}
 use Rattle.cells.proofs.Counting.{turned-none, turned-more}
-use Rattle.cells.proofs.Regroup.{listed-append, all-words, witOf-lt, witOf-value, groups-wit}
-use Rattle.cells.proofs.Sizes.{word-fits, lt-of-mul, Sizes, sizes-none, sizes-more, wits-at}
+use Rattle.cells.proofs.Regroup.{listed-append, all-words, witOf-value}
+use Rattle.words.proofs.Sizes.{word-fits}
+use Rattle.cells.proofs.Sizes.{Sizes, sizes-none, sizes-more, wits-at}
 
 -- the field's groups in words, and the buffer that they make
 abbrev pub field : ℕ → ℕ → List ℕ → List ℕ
@@ -50,10 +51,10 @@ module _ (o : ℕ) {m h : ℕ} {bs : List ℕ} (S : Storable m h bs) (ws : List 
       let f = witOf t ws in
       let n = wordGroups m in
       let w = word-fits m (S .low) (S .high) in
-      let all : allGroups m n ws ≡ listed (group m f) (n * 0) (n * length ws) = all-words f (witOf-lt ws t (pos .1)) m n ws 0
+      let all : allGroups m n ws ≡ listed (group m f) (n * 0) (n * length ws) = all-words f (witOf-lt t ws) m n ws 0
       (λ j l. rw (w .0, zero-add j) (witOf-value ws t (pos .1) j)) in
       let many : m * (n * 16) ≡ 16 * t = rw (← mul-assoc m n 16, w .0) (omega arith) in
-      let room : h < suc (n * 16) = lt-of-mul m h (suc (n * 16)) (omega (arith, mul-suc m (n * 16), w .3 h (S .few), S .low)) in
+      let room : h < suc (n * 16) = lt-of-mul-lt-mul-left m {m = h} {n = suc (n * 16)} (omega (arith, mul-suc m (n * 16), w .4 h (S .few), S .low)) in
       let cut : n * 16 ≡ h + (n * 16 - h) = omega arith in
       rw (all, mul-zero n, long, cut, listed-append (group m f) 0 h (n * 16 - h))
       (take-at (listed (group m f) 0 h) (listed (group m f) (0 + h) (n * 16 - h)) h (listed-length (group m f) 0 h))
@@ -64,7 +65,7 @@ module _ (o : ℕ) {m h : ℕ} {bs : List ℕ} (S : Storable m h bs) (ws : List 
 
   -- the wits of the buffer
   before : (k : ℕ) → k < m * h → wit o (target o m h ws) k ≡ witOf t ws k
-  before k l = stored-wit o m (field m h ws) (pos .0) k ∙ rw field-is (groups-wit m h (witOf t ws) k (witOf-lt ws t (pos .1)) (pos .0) l)
+  before k l = stored-wit o m (field m h ws) (pos .0) k ∙ rw field-is (groups-wit m h (witOf t ws) k (witOf-lt t ws) (pos .0) l)
 
   behind : (k : ℕ) → m * h ≤ k → wit o (target o m h ws) k ≡ 0
   behind = sound-past o m h (target o m h ws) (rw field-long at (stored-sound o m (field m h ws) (pos .0)))
@@ -80,7 +81,7 @@ module _ (o : ℕ) {m h : ℕ} {bs : List ℕ} (S : Storable m h bs) (ws : List 
       let none : value g (t * i + (t - d)) d ≡ 0 = value-none g (t * i + (t - d)) d
       (λ k u. elim b [ inl z ↦ absurd (omega arith) | inr z ↦ behind (t * i + (t - d) + k) (omega arith) ]) in
       let same : value g (t * i) (t - d) ≡ value f (t * i) (t - d) = value-same g f (t * i) (t - d) (λ k u. before (t * i + k) (omega arith)) in
-      let front : w / 2 ^ d % 2 ^ (t - d) ≡ value f (t * i) (t - d) = value-front f (t * i) (t - d) w d (witOf-lt ws t (pos .1))
+      let front : w / 2 ^ d % 2 ^ (t - d) ≡ value f (t * i) (t - d) = value-front f (t * i) (t - d) w d (witOf-lt t ws)
       (rw p (witOf-value ws t (pos .1) i)) .0 in
       let whole : value g (t * i) (t - d + d) ≡ w / 2 ^ d * 2 ^ d % 2 ^ (t - d + d) = rw (value-split g (t * i) (t - d) d, none, same, ← front, add-zero)
       (sym (shift-left (w / 2 ^ d) (t - d) d)) in

@@ -14,9 +14,9 @@ use Rattle.code.specs.Cells.{wit, value}
 use Rattle.code.proofs.Tests.{le-or-lt}
 use Rattle.code.proofs.Wits.{wit-lt, wit-past}
 use Rattle.code.proofs.Numbers.{value-none, value-lt}
-use Rattle.code.proofs.Parts.{value-front}
+use Rattle.code.proofs.Parts.{value-split, value-front}
 use Rattle.cells.specs.Cells.{PutWits, Roomy, blended, Swappable, Swapped}
-use Rattle.cells.proofs.Values.{value-split, value-tells, shift-left}
+use Rattle.cells.proofs.Values.{value-tells, shift-left}
 use Rattle.cells.proofs.Counting.{put-turned}
 
 -- a number whose last e bits are 0 has so any last bits of it

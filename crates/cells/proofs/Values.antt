@@ -1,31 +1,22 @@
 -- The number that wits make, by its parts, and bytes put together to such numbers.
 use mathlib.Core.Path.{_≡_, sym, ap, _∙_}
 use mathlib.Core.List.{List}
-use Prim.Native.Nat.{ℕ, zero, suc, _+_, _*_, _-_, _^_, _/_, _%_, _≤_, _<_}
+use Prim.Native.Nat.{ℕ, _+_, _*_, _-_, _^_, _/_, _%_, _≤_, _<_}
 use native.Mathlib.Omega.{arith}
-use native.Mathlib.Nat.{add-suc, add-assoc, add-zero, pow-suc, mul-add, sub-self, one-mul, lt-of-lt-of-le, mul-mod-left, mod-eq-of-lt}
+use native.Mathlib.Nat.{add-zero, mul-add, sub-self, lt-of-lt-of-le, mul-mod-left, mod-eq-of-lt}
 use lib.Pow.{pow-mono, shl-exact, shl-shr, mod-pow-add, high}
 use lib.ListN.{length, getD}
 use Rattle.code.specs.Cells.{wit, value}
 use Rattle.code.proofs.Bits.{bit}
 use Rattle.code.proofs.Wits.{Bytes, wit-lt, wit-past}
 use Rattle.code.proofs.Numbers.{value-lt, value-bit, value-none}
-use Rattle.code.proofs.Parts.{value-front}
+use Rattle.code.proofs.Parts.{value-split, value-front}
 use Rattle.cells.specs.Cells.{octet, Start}
 use Rattle.cells.proofs.Octets.{octet-high, octet-value}
-
-pub value-split : (f : ℕ → ℕ) (w a b : ℕ) → value f w (a + b) ≡ value f w a * 2 ^ b + value f (w + a) b
-unfolding value
-value-split f w a zero = rw (add-zero a) (omega arith)
-value-split f w a (suc b) = rw (add-suc a b, pow-suc 2 b, ← add-assoc w a b) (omega (arith, value-split f w a b))
 
 -- wits that make the same number are the same
 pub value-tells : (f g : ℕ → ℕ) (w n : ℕ) → ((k : ℕ) → f k < 2) → ((k : ℕ) → g k < 2) → value f w n ≡ value g w n → (i : ℕ) → i < n → f (w + i) ≡ g (w + i)
 value-tells f g w n a b e i l = sym (value-bit f w i (n - 1 - i) n a (omega arith)) ∙ ap (bit (n - 1 - i)) e ∙ value-bit g w i (n - 1 - i) n b (omega arith)
-
--- 1 moved left by n, and n ones, as code has them
-pub shifted : (n : ℕ) → n < 64 → 1 * 2 ^ n % 2 ^ 64 ≡ 2 ^ n
-shifted n h = shl-exact {a = 1} 1 n 64 (omega arith) (omega arith) ∙ one-mul (2 ^ n)
 
 module _ (o : ℕ) (bs : List ℕ) where
   -- a bytes from byte i on, and b bytes behind them

@@ -55,14 +55,14 @@ unfolding groups
 groups-at m h f j l = listed-at (group m f) 0 h j l ∙ rw (zero-add j)
 
 -- groups of wits have those wits
-groups-wit : (m h : ℕ) (f : ℕ → ℕ) (w : ℕ) → ((k : ℕ) → f k < 2) → 0 < m → w < m * h → witOf m (groups m h f) w ≡ f w
+pub groups-wit : (m h : ℕ) (f : ℕ → ℕ) (w : ℕ) → ((k : ℕ) → f k < 2) → 0 < m → w < m * h → witOf m (groups m h f) w ≡ f w
 unfolding witOf groups group
 groups-wit m h f w b pos l =
     let r : w % m < m = mod-lt w pos in
     rw (listed-at (group m f) 0 h (w / m) (div-lt-iff-lt-mul pos .1 (rw (mul-comm h m) l)), zero-add (w / m))
     (value-bit f (m * (w / m)) (w % m) (m - 1 - w % m) m b (omega arith) ∙ rw div-add-mod)
 
-witOf-lt : (m : ℕ) (gs : List ℕ) (w : ℕ) → witOf m gs w < 2
+pub witOf-lt : (m : ℕ) (gs : List ℕ) (w : ℕ) → witOf m gs w < 2
 unfolding witOf
 witOf-lt m gs w = omega arith
 

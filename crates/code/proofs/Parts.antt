@@ -7,7 +7,7 @@ use lib.Pow.{high, low, field, mod-mod-pow}
 use Rattle.code.specs.Cells.{value}
 use Rattle.code.proofs.Numbers.{value-lt}
 
-value-split : (f : ℕ → ℕ) (w a b : ℕ) → value f w (a + b) ≡ value f w a * 2 ^ b + value f (w + a) b
+pub value-split : (f : ℕ → ℕ) (w a b : ℕ) → value f w (a + b) ≡ value f w a * 2 ^ b + value f (w + a) b
 unfolding value
 value-split f w a zero = rw (add-zero a) (omega arith)
 value-split f w a (suc b) = rw (add-suc a b, pow-suc 2 b, ← add-assoc w a b) (omega (arith, value-split f w a b))

@@ -110,10 +110,6 @@ module _ (m e : ℕ) (pm : 0 < m) (pe : 0 < e) where
         let t = topped gs i h in
         rw (top-is (left i) (t .0) (t .1 .above) (t .1 .below) (omega (arith, t .1 .within))) (t .1)
 
-    pub left-some : (i : ℕ) → i < zeros gs → 0 < marksOf m zeroGroup (erase e i gs)
-    unfolding left
-    left-some i h = omega (arith, top-left i h .above, pow-pos (topOf (left i)))
-
     pub left-one : (i : ℕ) → marksOf m zeroGroup (erase e i gs) - 2 ^ topOf (marksOf m zeroGroup (erase e i gs)) ≡ marksOf m zeroGroup (erase e (suc i) gs)
     unfolding left
     left-one i = elim (decLt i (zeros gs)) [

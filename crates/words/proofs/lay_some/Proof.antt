@@ -2,7 +2,7 @@
 use Rattle.words.specs.Marks.{restOf, topOf}
 use Rattle.words.proofs.Scattering.{Scattering, scattering-none, scattering-more, scattering-fits, scattered-word}
 use Rattle.words.proofs.Scattering.{ahead-some, ahead-none, label-below, skips, skip-some}
-use Prim.Native.Nat.{_-_}
+use Prim.Native.Nat.{_-_, _<_}
 use mathlib.Core.Path.{refl, ap, _∙_}
 use native.Mathlib.Omega.{arith}
 use borrow.Author.Needs.{needs}
@@ -15,6 +15,16 @@ Inv-loop w marks m right next labels values at k word₀ left₀ from₀ i₀ wo
 
 abbrev μ-loop : tie.MeasureT-loop
 μ-loop w marks m right next labels values at k word₀ left₀ from₀ i₀ word left from i = k - i
+
+-- the next label is below the one before
+below : (c : tie.After-wide Inv-loop μ-loop) → c .wide .result < c .before .before .before .loop .from
+below c = label-below (c .before .before .before .loop .inv) (omega arith) (omega arith) (omega arith) _ _ (c .wide .ensures .0) refl
+
+-- and a zero group is left for it
+some : (c : tie.After-skip Inv-loop μ-loop) → 0 < c .skip .result
+some c =
+    let l = c .before .before .before .before .before .loop in
+    rw (c .skip .ensures) (skip-some (l .inv) (omega arith) (omega arith) (omega arith) _ _ (c .before .before .wide .ensures .0) refl (omega arith))
 
 pub lay-some-spec : {M : Type 1} → statement M
 lay-some-spec =
@@ -31,30 +41,15 @@ lay-some-spec =
     let l = c .before .before .before .before .loop in
     scattered-word (l .inv) (ahead-some (l .inv) (omega arith) (omega arith) (omega arith) _ _ (c .before .wide .ensures .0) refl (omega arith)))
     -- sub-skip
-    (λ c.
-    omega (
-      arith,
-      label-below (c .before .before .before .before .loop .inv) (omega arith) (omega arith) (omega arith) _ _
-          (c .before .wide .ensures .0) refl,
-    ))
+    (λ c. omega (arith, below (c .before)))
     -- sub-skip-2
-    (λ c.
-    omega (
-      arith,
-      label-below (c .before .before .before .before .loop .inv) (omega arith) (omega arith) (omega arith) _ _
-          (c .before .wide .ensures .0) refl,
-    ))
+    (λ c. omega (arith, below (c .before)))
     -- skip-requires
     (λ c κs.
-    omega (
-      arith,
-      skips (c .before .before .before .before .loop .inv) (omega arith) (omega arith) (omega arith) _ _
-          (c .before .wide .ensures .0) refl (omega arith),
-    ))
+    let l = c .before .before .before .before .loop in
+    omega (arith, skips (l .inv) (omega arith) (omega arith) (omega arith) _ _ (c .before .wide .ensures .0) refl (omega arith)))
     -- top-odd-requires
-    (λ c κs.
-    let l = c .before .before .before .before .before .loop in
-    rw (c .skip .ensures) (skip-some (l .inv) (omega arith) (omega arith) (omega arith) _ _ (c .before .before .wide .ensures .0) refl (omega arith)))
+    (λ c κs. some c)
     (λ c. search needs)
     (λ c κs. search needs)
     (λ c. search needs)
@@ -68,11 +63,7 @@ lay-some-spec =
           (omega arith) _ t,
     ))
     -- strip-requires
-    (λ c κs.
-    let l = c .before .before .before .before .before .before .before .before .before .loop in
-    let e = c .before .before .before .before .before .before .wide .ensures .0 in
-    let s = skip-some (l .inv) (omega arith) (omega arith) (omega arith) _ _ e refl (omega arith) in
-    (rw (c .before .before .before .before .skip .ensures) s, c .before .before .before .«top-odd» .ensures .0))
+    (λ c κs. (some (c .before .before .before .before), c .before .before .before .«top-odd» .ensures .0))
     (λ c. search needs)
     (λ c. search needs)
     -- loop-again

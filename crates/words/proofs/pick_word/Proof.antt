@@ -4,7 +4,9 @@ use Rattle.words.proofs.Filling.{Filling, filling-none, filling-room, f
 use Rattle.words.proofs.Picked.{groups-picked}
 use Rattle.words.specs.Marks.{Marks, groupIn}
 use Rattle.words.specs.Words.{wordGroups, groupsAt}
+use Prim.Native.Nat.{_<_}
 use native.Mathlib.Omega.{arith}
+use Rattle.code.specs.Chosen.{patternMost}
 use borrow.Author.Needs.{needs}
 use Rattle.words.proofs.pick_word.Statement.{statement}
 use Rattle.words.proofs.pick_word.Tie as tie
@@ -14,6 +16,11 @@ Inv-loop w marks m values₀ at e left₀ i₀ values left i = Marks m left × F
 
 abbrev μ-loop : tie.MeasureT-loop
 μ-loop w marks m values₀ at e left₀ i₀ values left i = left
+
+room : (c : tie.In-loop Inv-loop μ-loop) → c .before .loop .i < patternMost
+room c =
+    let p = c .before .before .before .pre .0 in
+    filling-room (p .0) (p .1) (c .before .loop .inv .0) (omega arith) (c .before .loop .inv .1)
 
 pub pick-word-spec : {M : Type 1} → statement M
 pick-word-spec =
@@ -28,18 +35,10 @@ pick-word-spec =
     (λ c κs. search needs)
     (λ c. search needs)
     -- element-write-values
-    (λ c.
-    filling-room (c .before .before .before .before .before .pre .0 .0) (c .before .before .before .before .before .pre .0 .1)
-    (c .before .before .before .loop .inv .0) (omega arith) (c .before .before .before .loop .inv .1))
+    (λ c. room (c .before .before))
     (λ c κs. search needs)
     -- add-i
-    (λ c.
-    omega (
-      arith,
-      filling-room (c .before .before .before .before .before .before .pre .0 .0)
-          (c .before .before .before .before .before .before .pre .0 .1) (c .before .before .before .before .loop .inv .0) (omega arith)
-          (c .before .before .before .before .loop .inv .1),
-    ))
+    (λ c. omega (arith, room (c .before .before .before)))
     -- loop-less
     (λ c. c .strip .ensures .1)
     -- loop-again
