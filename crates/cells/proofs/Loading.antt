@@ -19,6 +19,7 @@ use Rattle.words.specs.Words.{allGroups, wordBytes, wordGroups}
 use Rattle.cells.specs.Cells.{Loadable, Loaded}
 use Rattle.cells.proofs.Regroup.{all-words, padded, padded-lt, padded-before, padded-ones, padded-groups}
 use Rattle.words.proofs.Sizes.{word-fits}
+use Rattle.words.proofs.Front.{each-set}
 use Rattle.cells.proofs.Sizes.{storable, Sizes, sizes-none, sizes-more, wits-at}
 
 -- the last word gets its ones
@@ -47,10 +48,7 @@ module _ {o m h : ℕ} {bs : List ℕ} (L : Loadable o m h bs) where
     loading-more x l e = record {
       sizes = sizes-more (storable L) z l;
       long = rw length-set (C .long);
-      made = λ j k. elim (ℕ-discrete j i) [
-        | yes q ↦ rw (q, getD-set-same ws i x 0 (omega (arith, C .long, z .within))) (rw (wits-at z) at e)
-        | no q ↦ getD-set-other ws i j x 0 q ∙ C .made j (omega arith)
-      ];
+      made = each-set (λ j y. y ≡ value (wit o bs) (8 * size * j) (8 * size)) ws i x (omega (arith, C .long, z .within)) (rw (wits-at z) at e) (C .made);
     }
 
     -- the words with the ones behind the field
@@ -72,15 +70,8 @@ module _ {o m h : ℕ} {bs : List ℕ} (L : Loadable o m h bs) where
             | yes q ↦ rw (q, getD-set-same ws i (bitOr y (2 ^ d - 1)) 0 (omega (arith, C .long, z .within)), e, ← wits-at z)
                 (rw whole at (pad-last f (m * h) (8 * at) (t - d) d (omega (arith, z .held, z .tight, z .inside)) (sound-past o m h bs (L .fit))))
             | no q ↦ getD-set-other ws i j (bitOr y (2 ^ d - 1)) 0 q ∙ C .made j (omega arith) ∙ sym (value-same (padded (m * h) f) f (t * j) t (λ v u.
-                padded-before (m * h) f (t * j + v) (omega (
-                  arith,
-                  wits-at z,
-                  z .tight,
-                  z .inside,
-                  mul-suc t j,
-                  mul-le-mul-left {m = suc j} {n = i} t
-                      (omega arith),
-                ))))
+                let more = mul-le-mul-left {m = suc j} {n = i} t (omega arith) in
+                padded-before (m * h) f (t * j + v) (omega (arith, wits-at z, z .tight, z .inside, mul-suc t j))))
           ]
 
       pub loading-all : Loaded o m h bs us (i + 1)

@@ -1,5 +1,5 @@
 -- A pattern's number from the labels and values of its written places.
-use Prim.Native.Nat.{ℕ, zero, suc}
+use Prim.Native.Nat.{ℕ, zero, suc, _≤_}
 use mathlib.Core.Path.{_≡_, refl, ap}
 use mathlib.Core.List.{List, [], _∷_}
 use native.Mathlib.Omega.{arith}
@@ -33,16 +33,16 @@ digits-chosen b [] = refl
 digits-chosen b (zero ∷ xs) = digits-chosen b xs
 digits-chosen b (suc x ∷ xs) = rw (values-many xs, digits-chosen b xs)
 
--- a label is below the number of places
-below-more : (s : ℕ) (is : List ℕ) → Below s is → Below (suc s) is
-below-more s [] u = tt
-below-more s (i ∷ is) u = (omega (arith, u .0), below-more s is (u .1))
+pub below-up : (a b : ℕ) (xs : List ℕ) → a ≤ b → Below a xs → Below b xs
+below-up a b [] h k = tt
+below-up a b (x ∷ xs) h k = (omega (arith, k .0), below-up a b xs h (k .1))
 
+-- a label is below the number of places
 pub labels-below : (xs : List ℕ) → Below (length xs) (labels xs)
 unfolding labels
 labels-below [] = tt
-labels-below (zero ∷ xs) = below-more (length xs) (labels xs) (labels-below xs)
-labels-below (suc x ∷ xs) = (omega arith, below-more (length xs) (labels xs) (labels-below xs))
+labels-below (zero ∷ xs) = below-up (length xs) (suc (length xs)) (labels xs) (omega arith) (labels-below xs)
+labels-below (suc x ∷ xs) = (omega arith, below-up (length xs) (suc (length xs)) (labels xs) (omega arith) (labels-below xs))
 
 -- a place to the left of all labels is not written
 pub scattered-left : (s : ℕ) (is xs : List ℕ) → Below s is → scattered (suc s) is xs ≡ 0 ∷ scattered s is xs

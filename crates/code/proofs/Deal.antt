@@ -124,13 +124,8 @@ laid-back b [] u = refl
 laid-back b (zero ∷ p) u = rw (laid-zero b (length p) (written p) (rank p) (digits b p) (rank-below p), laid-back b p (u .1))
 laid-back b (suc x ∷ p) u =
     let h = digits-below b p (u .1) in
-    rw (
-      le-leb (choose (length p) (suc (written p))) (choose (length p) (suc (written p)) + rank p) (omega arith),
-      digits-div x h,
-      digits-mod x h,
-      add-sub-cancel-left,
-      laid-back b p (u .1),
-    )
+    let n = choose (length p) (suc (written p)) in
+    rw (le-leb n (n + rank p) (omega arith), digits-div x h, digits-mod x h, add-sub-cancel-left, laid-back b p (u .1))
 
 pub number-below : (b first : ℕ) (p : List ℕ) → Upto b p → first ≤ written p → number b first p < fewer b (length p) first (suc (written p))
 unfolding number

@@ -233,17 +233,7 @@ module _ (e first : ℕ) (hs vs : List ℕ) where
               (a .carried) (q .long) (q .back) hx;
           tells = rw (a .carried) (q .back);
           ready = rw (a .left) (q .keeps);
-          marked = omega (
-            arith,
-            z,
-            a .left,
-            a .long,
-            erase-length e k gs,
-            zeros-written (lay (erase e k gs) p),
-            l,
-            head-most e e first hs vs (suc n)
-                (y .holds),
-          );
+          marked = omega (arith, a .left, a .long, erase-length e k gs, zeros-written gs′, head-most e e first hs vs (suc n) (y .holds));
           grows = erase-lay-grows e k gs p pos;
         }
 

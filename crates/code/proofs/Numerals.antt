@@ -32,14 +32,9 @@ written-reads (suc most) x rest b = elim (le-or-lt 128 x) [
   | inl h ↦
       let q : x / 128 < 128 ^ suc most = omega (arith, pow-succ' 128 (suc most)) in
       let e : 128 + x % 128 - 128 + 128 * (x / 128) ≡ x = omega arith in
-      rw (
-        sevens-split (suc most) x h,
-        read-more (suc most) (128 + x % 128) (sevens (suc most) (x / 128) ++ rest) (omega arith),
-        written-reads most
-            (x / 128) rest q,
-        longer-is (128 + x % 128) (x / 128) (length (sevens (suc most) (x / 128))) (omega arith),
-        e,
-      )
+      let s = sevens (suc most) (x / 128) in
+      rw (sevens-split (suc most) x h, read-more (suc most) (128 + x % 128) (s ++ rest) (omega arith))
+      (rw (written-reads most (x / 128) rest q, longer-is (128 + x % 128) (x / 128) (length s) (omega arith), e))
   | inr h ↦ rw (sevens-last (suc most) x h) (read-last (suc most) x rest h)
 ]
 

@@ -46,12 +46,9 @@ pub length-next : (xs : List ℕ) (i : ℕ) → i < length xs →
 length-next xs i l = ap length (numerals-next xs i l) ∙ length-append (numeralsOf (take i xs)) (sevens 9 (getD xs i 0))
 
 pub numerals-part : (xs : List ℕ) (i : ℕ) → length (numeralsOf (take i xs)) ≤ length (numeralsOf xs)
-numerals-part xs i = omega (
-  arith,
-  length-append (numeralsOf (take i xs)) (numeralsOf (drop i xs)),
-  ap length
-      (sym (numerals-append (take i xs) (drop i xs)) ∙ ap numeralsOf (take-append-drop i xs)),
-)
+numerals-part xs i =
+    let parts = ap length (sym (numerals-append (take i xs) (drop i xs)) ∙ ap numeralsOf (take-append-drop i xs)) in
+    omega (arith, length-append (numeralsOf (take i xs)) (numeralsOf (drop i xs)))
 
 -- what the bytes from a place on begin with stands there, and what follows it stands after it
 pub behind : (bytes : List ℕ) (at : ℕ) (front rest : List ℕ) → drop at bytes ≡ front ++ rest → drop (at + length front) bytes ≡ rest
@@ -73,13 +70,8 @@ numerals-read [] bytes at rest b e = rw add-zero
 numerals-read (x ∷ xs) bytes at rest b e =
     let s : List ℕ = sevens 9 x in
     let e′ : drop at bytes ≡ s ++ (numeralsOf xs ++ rest) = e ∙ append-assoc s (numeralsOf xs) rest in
-    rw (
-      numbers-one (length xs) bytes at x (length s) (rw e′ (number-reads x (numeralsOf xs ++ rest) (b .0))),
-      numerals-read xs bytes (at + length s) rest
-          (b .1) (behind bytes at s (numeralsOf xs ++ rest) e′),
-      length-append,
-      add-assoc,
-    )
+    rw (numbers-one (length xs) bytes at x (length s) (rw e′ (number-reads x (numeralsOf xs ++ rest) (b .0))))
+    (rw (numerals-read xs bytes (at + length s) rest (b .1) (behind bytes at s (numeralsOf xs ++ rest) e′), length-append, add-assoc))
 
 -- the numbers of a record, which stand before its cells
 abbrev pub head : ℕ → ℕ → ℕ → ℕ → ℕ → List ℕ

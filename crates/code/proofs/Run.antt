@@ -197,10 +197,9 @@ module _ (e first : ℕ) (hs vs : List ℕ) (y : Layout e first hs vs) where
   pub taken : (c x : ℕ) (gs : List ℕ) → Held e first hs vs c gs → c < length hs → x < getD vs c 0 →
       (write e first hs vs x gs ≡ wrote (suc c) (after e first hs c x gs)) × After e first hs vs c x gs (after e first hs c x gs)
   unfolding writeAt
-  taken c x gs k cl hx = (
-    stands-write e first hs vs x c gs (k .stands) ∙ rw (lt-ltb c (length hs) cl, lt-ltb x (getD vs c 0) hx),
-    after-is e first hs vs y c x gs cl hx (k .long) (stands-ready e first hs vs c gs (k .stands)),
-  )
+  taken c x gs k cl hx =
+      let w = stands-write e first hs vs x c gs (k .stands) in
+      (w ∙ rw (lt-ltb c (length hs) cl, lt-ltb x (getD vs c 0) hx), after-is e first hs vs y c x gs cl hx (k .long) (stands-ready e first hs vs c gs (k .stands)))
 
   -- the run keeps count
   step : (c x : ℕ) (gs : List ℕ) → Held e first hs vs c gs → (c < length hs → x < getD vs c 0) →

@@ -117,11 +117,8 @@ pub onward-taken : (bytes : List ℕ) (at : ℕ) (r : Record) → step bytes at 
     onward bytes at ≡ taken r ∷ onward bytes (r .start + r .count)
 onward-taken bytes at r e =
     let w = step-forward bytes at r e in
-    cc (
-      walk-taken (length bytes - at) bytes at r e,
-      walk-fuel (length bytes - at) (suc (length bytes - (r .start + r .count))) bytes (r .start + r .count)
-          (omega arith) (omega arith),
-    )
+    let next : ℕ = r .start + r .count in
+    cc (walk-taken (length bytes - at) bytes at r e, walk-fuel (length bytes - at) (suc (length bytes - next)) bytes next (omega arith) (omega arith))
 
 -- a record's contents
 pub record Entry : Type 0 where

@@ -84,12 +84,9 @@ module _ (s : Shape) (ok : layoutRefusal s 256 ≡ []) where
 
   -- there is room for every number of the range, and its pattern has values below 2^m
   pub room-for : (n x : ℕ) → n < s .t → x < s .v → x < room full (base full n) (fewest (firstOf s) n) (getD (countsOf s) n 0) (getD (countsOf s) (suc n) 0)
-  room-for n x l h = omega (
-    arith,
-    range-at s n l,
-    holds-room full (firstOf s) (countsOf s) (rangesOf s) n (is-layout s ok .holds)
-        (omega (arith, counts-length s ok)),
-  )
+  room-for n x l h =
+      let room = holds-room full (firstOf s) (countsOf s) (rangesOf s) n (is-layout s ok .holds) (omega (arith, counts-length s ok)) in
+      omega (arith, range-at s n l)
 
   -- the spare groups are those above the generation's count; blank groups have none
   pub after-erased : (n x : ℕ) (gs : List ℕ) → Ready (countsOf s) n gs → length gs ≡ widthOf s →
@@ -105,33 +102,23 @@ module _ (s : Shape) (ok : layoutRefusal s 256 ≡ []) where
       (write full (firstOf s) (countsOf s) (rangesOf s) x gs ≡ wrote 1 (after full (firstOf s) (countsOf s) 0 x gs)) × Ready (countsOf s) 0 gs
   unfolding writeOn
   first-write x gs r h =
-      let w = bounded s ok in (
-        write-read full (firstOf s) (countsOf s) (rangesOf s) x gs blank r
-            ∙ write-taken full (firstOf s) (countsOf s) (rangesOf s) x gs 0 (omega (arith, counts-length s ok, w .t-low))
-            (omega (arith, range-at s 0 (omega (arith, w .t-low)))),
-        blank-read full (firstOf s) (countsOf s) (rangesOf s) gs r,
-      )
+      let some : 0 < s .t = omega (arith, bounded s ok .t-low) in
+      let w = write-taken full (firstOf s) (countsOf s) (rangesOf s) x gs 0 (omega (arith, counts-length s ok)) (omega (arith, range-at s 0 some)) in
+      (write-read full (firstOf s) (countsOf s) (rangesOf s) x gs blank r ∙ w, blank-read full (firstOf s) (countsOf s) (rangesOf s) gs r)
 
   pub next-write : (x i y : ℕ) (gs : List ℕ) → x < s .v → read full (firstOf s) (countsOf s) (rangesOf s) gs ≡ reads i y → i < s .t →
       (write full (firstOf s) (countsOf s) (rangesOf s) x gs ≡ wrote (suc i) (after full (firstOf s) (countsOf s) i x gs)) × Ready (countsOf s) i gs
   unfolding writeOn
   next-write x i y gs h r l =
-      let q = read-past full (firstOf s) (countsOf s) (rangesOf s) gs i y r in (
-        write-read full (firstOf s) (countsOf s) (rangesOf s) x gs (reads i y) r
-            ∙ write-taken full (firstOf s) (countsOf s) (rangesOf s) x gs i (omega (arith, counts-length s ok)) (omega (arith, range-at s i l)),
-        rw q (past-next (countsOf s) (zeros gs)),
-      )
+      let q = read-past full (firstOf s) (countsOf s) (rangesOf s) gs i y r in
+      let w = write-taken full (firstOf s) (countsOf s) (rangesOf s) x gs i (omega (arith, counts-length s ok)) (omega (arith, range-at s i l)) in
+      (write-read full (firstOf s) (countsOf s) (rangesOf s) x gs (reads i y) r ∙ w, rw q (past-next (countsOf s) (zeros gs)))
 
   -- the generation read is at most t
   pub read-most : (gs : List ℕ) (i y : ℕ) → read full (firstOf s) (countsOf s) (rangesOf s) gs ≡ reads i y → i ≤ s .t
   read-most gs i y r =
-      omega (
-        arith,
-        read-past full (firstOf s) (countsOf s) (rangesOf s) gs i y r,
-        below (countsOf s) (zeros gs)
-            (omega (arith, counts-length s ok, bounded s ok .t-low)),
-        counts-length s ok,
-      )
+      let b = below (countsOf s) (zeros gs) (omega (arith, counts-length s ok, bounded s ok .t-low)) in
+      omega (arith, read-past full (firstOf s) (countsOf s) (rangesOf s) gs i y r, counts-length s ok)
     where
       below : (hs : List ℕ) (z : ℕ) → 0 < length hs → past hs z < length hs
       below [] z p = absurd (omega arith)

@@ -36,13 +36,8 @@ room b s first k pos hf hs l = elim (le-or-lt k patternMost) [
   | inl h ↦ h
   | inr g ↦
       let ways : choose 65 32 ≤ choose s 32 = choose-up 65 s 32 (omega arith) in
-      absurd (omega (
-        arith,
-        many-ways,
-        le-mul-of-pos-right (choose s 32) (one-le-pow 32 b pos),
-        fewer-step b s first 32 (omega arith),
-        fewer-grows b s first 33 k (omega arith),
-      ))
+      let all = le-mul-of-pos-right (choose s 32) (one-le-pow 32 b pos) in
+      absurd (omega (arith, many-ways, fewer-step b s first 32 (omega arith), fewer-grows b s first 33 k (omega arith)))
 ]
 
 -- the first of the labels from `at` on, of which `left` are left

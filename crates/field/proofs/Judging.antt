@@ -105,10 +105,8 @@ module _ {s : Shape} {h : List ℕ} (G : Granted s h) {n : ℕ} {words : List �
   pub first-marked : {marks : List ℕ} → Fronted (s .m) n (getD h 0 0) marks →
       (Pickable (s .m) n words marks) × (frontAt (s .m) n marks words ≡ fieldGroups s n words)
   first-marked {marks} F =
-      let q : frontAt (s .m) n marks words ≡ fieldGroups s n words = F .held words (H .long) ∙ rw width in (
-        front-pickable (s .m) n words marks (G .bounds .m-low) (G .bounds .m-high) (H .ends .few) (H .long) (getD h 0 0) F (G .small 0),
-        q,
-      )
+      let q : frontAt (s .m) n marks words ≡ fieldGroups s n words = F .held words (H .long) ∙ rw width in
+      (front-pickable (s .m) n words marks (G .bounds .m-low) (G .bounds .m-high) (H .ends .few) (H .long) (getD h 0 0) F (G .small 0), q)
 
   -- what is seen of the words tells of the field
   module _ {marks : List ℕ} {seen : Seen} (W : Viewed (s .m) n words marks seen) where

@@ -98,6 +98,7 @@ module _ {bytes : List ℕ} {at value worth i : ℕ} (r : Reading bytes at value
       let b : ℕ = getD bytes i 0 in
       let most : r .k < 8 = lt-of-le-ne (r .most) (λ e. absurd (omega (arith, r .power, ap (λ n. 128 ^ n) e))) in
       let left : 8 - r .k ≡ suc (8 - suc (r .k)) = omega arith in
+      let behind = drop (suc i) bytes in
       record {
         k = suc (r .k);
         place = omega (arith, r .place);
@@ -105,12 +106,5 @@ module _ {bytes : List ℕ} {at value worth i : ℕ} (r : Reading bytes at value
         power = ap (λ w. w * 128) (r .power) ∙ sym (pow-suc 128 (r .k));
         small = omega (arith, r .small, mul-le-mul-right {m = b - 128} {n = 127} worth (omega arith));
         large = omega (arith, r .power, below most);
-        same = rw (
-          add-one i,
-          ahead inside,
-          read-more (8 - r .k) b (drop (suc i) bytes) high,
-          after-more value worth (r .k) b
-              (readSevens (8 - r .k) (drop (suc i) bytes)),
-          left,
-        );
+        same = rw (add-one i, ahead inside, read-more (8 - r .k) b behind high, after-more value worth (r .k) b (readSevens (8 - r .k) behind), left);
       }

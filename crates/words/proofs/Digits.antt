@@ -1,22 +1,18 @@
 -- The next values of an array, laid into the zero groups of a word.
 use mathlib.Core.Path.{_≡_}
 use mathlib.Core.List.{List, [], _∷_, _++_}
-use Prim.Native.Nat.{ℕ, zero, suc, _+_, _*_, _-_, _^_, _≤_, _<_}
+use Prim.Native.Nat.{ℕ, suc, _+_, _*_, _-_, _^_, _≤_, _<_}
 use native.Mathlib.Omega.{arith}
 use native.Mathlib.Nat.{sub-self}
 use lib.Count.{ones, onesIn}
-use lib.ListN.{length, getD, take, drop, length-drop}
-use lib.Seq.{take-suc, take-nil, length-take-le, getD-drop, getD-take}
+use lib.ListN.{length, getD, take, drop, length-take, length-drop}
+use lib.Seq.{take-suc, length-take-le, getD-drop, getD-take}
 use Rattle.code.specs.Chosen.{patternMost}
 use Rattle.code.specs.Field.{zeros}
 use Rattle.code.specs.Lists.{Upto}
+use Rattle.code.proofs.Cells.{upto-at, upto-all}
 use Rattle.words.specs.Marks.{groupsIn, topOf, Blanks, WordLaid}
 use Rattle.words.proofs.Laying.{Laying, laying-none, laying-ones, laying-some, laying-more, laying-all}
-
-upto-at : (e : ℕ) (xs : List ℕ) (i : ℕ) → i < length xs → Upto e xs → getD xs i 0 ≤ e
-upto-at e [] i h u = absurd (omega arith)
-upto-at e (x ∷ xs) zero h u = u .0
-upto-at e (x ∷ xs) (suc i) h u = upto-at e xs i (omega arith) (u .1)
 
 -- the values before i are laid
 pub record Digits (m w : ℕ) (values : List ℕ) (at word left i : ℕ) : Type 0 where
@@ -53,20 +49,15 @@ module _ {m w : ℕ} {values : List ℕ} {at word left i : ℕ} (C : Digits m w 
     small-here =
         let z = zeros (groupsIn m w) in
         let e : at + (i - at) ≡ i = omega (arith, C .from) in
-        let l : length (take z (drop at values)) ≡ z = length-take-le z (drop at values) (rw (length-drop at values) (omega (arith, C .long, C .few))) in
         rw (getD-take z (drop at values) (i - at) 0 more, getD-drop at values (i - at) 0, e) at
-        (upto-at (2 ^ m - 1) (take z (drop at values)) (i - at) (rw l more) (C .small))
+        (upto-at (2 ^ m - 1) (take z (drop at values)) (i - at) (C .small))
 
     next : take (i + 1 - at) (drop at values) ≡ take (i - at) (drop at values) ++ getD values i 0 ∷ []
     next =
         let s : i + 1 - at ≡ suc (i - at) = omega (arith, C .from) in
         let e : at + (i - at) ≡ i = omega (arith, C .from) in
-        rw (
-          s,
-          take-suc (drop at values) (i - at) 0 (rw (length-drop at values) (omega (arith, C .long, digits-room, C .from))),
-          getD-drop at values (i - at) 0,
-          e,
-        )
+        let l : i - at < length (drop at values) = rw (length-drop at values) (omega (arith, C .long, digits-room, C .from)) in
+        rw (s, take-suc (drop at values) (i - at) 0 l, getD-drop at values (i - at) 0, e)
 
     pub digits-more : Digits m w values at (word + getD values i 0 * 2 ^ topOf left) (left - 2 ^ topOf left) (i + 1)
     digits-more = record {
@@ -90,14 +81,7 @@ module _ {m w : ℕ} {values : List ℕ} {at word left i : ℕ} (C : Digits m w 
       (record { tidy = l .1; made = rw (← n) (l .0) }, omega (arith, C .from))
 
 -- a part of values that are small
-upto-take : (e : ℕ) (xs : List ℕ) (a b : ℕ) → a ≤ b → Upto e (take b xs) → Upto e (take a xs)
-upto-take e xs zero b h u = tt
-upto-take e [] (suc a) b h u = tt
-upto-take e (x ∷ xs) (suc a) zero h u = absurd (omega arith)
-upto-take e (x ∷ xs) (suc a) (suc b) h u = (u .0, upto-take e xs a b (omega arith) (u .1))
-
 pub upto-part : (e : ℕ) (xs : List ℕ) (s a b : ℕ) → a + b ≤ s → Upto e (take s xs) → Upto e (take b (drop a xs))
-upto-part e xs s zero b h u = upto-take e xs b s (omega arith) u
-upto-part e [] s (suc a) b h u = rw (take-nil {A = ℕ} b) tt
-upto-part e (x ∷ xs) zero (suc a) b h u = absurd (omega arith)
-upto-part e (x ∷ xs) (suc s) (suc a) b h u = upto-part e xs s a b (omega arith) (u .1)
+upto-part e xs s a b h u = upto-all e (take b (drop a xs)) (λ i l.
+    let k : i < b = omega (arith, length-take b (drop a xs)) in
+    rw (getD-take b (drop a xs) i 0 k, getD-drop a xs i 0, ← getD-take s xs (a + i) 0 (omega arith)) (upto-at e (take s xs) (a + i) u))

@@ -4,7 +4,6 @@ use mathlib.Core.Logic.{inl, inr}
 use mathlib.Core.List.{List, [], _∷_, _++_}
 use Prim.Native.Nat.{ℕ, zero, suc, _+_, _*_, _-_, _^_, _≤_, _<_}
 use native.Mathlib.Omega.{arith}
-use native.Mathlib.Decide.{ℕ-discrete}
 use native.Mathlib.Nat.{mul-comm, zero-mul, zero-add, sub-zero, lt-of-lt-of-le}
 use lib.Count.{ones}
 use lib.Pow.{pow-mono}
@@ -18,7 +17,7 @@ use Rattle.words.specs.Words.{groupsOf, allGroups, wordBytes, wordGroups
 use Rattle.words.specs.Marks.{lows, marksOf, zeroGroup, nonzeroGroup, wordLows, wordMarks, stripped, ZeroMarked, Erased}
 use Rattle.words.proofs.Sizes.{word-fits}
 use Rattle.words.proofs.Masks.{groups-long, marks-not}
-use Rattle.words.proofs.Front.{front-more, front-set}
+use Rattle.words.proofs.Front.{each-set, front-more, front-set}
 use Rattle.words.proofs.Seeing.{zeros-ones, zeros-append}
 use Rattle.words.proofs.Packed.{packed, packed-lt, groups-packed}
 use Rattle.words.proofs.Stripping.{marks-kept, left-more}
@@ -128,14 +127,9 @@ zero-more {m} {i} {ws} {os} w o C h l e = record {
   few = omega arith;
   long = rw length-set (C .long);
   room = rw length-set (C .room);
-  tidy = λ j b. elim (ℕ-discrete j i) [
-    | yes q ↦ rw (q, getD-set-same ws i w 0 (omega (arith, C .long))) l
-    | no q ↦ rw (getD-set-other ws i j w 0 q) (C .tidy j (omega arith))
-  ];
-  marked = λ j b. elim (ℕ-discrete j i) [
-    | yes q ↦ rw (q, getD-set-same os i o 0 (omega (arith, C .room)), getD-set-same ws i w 0 (omega (arith, C .long))) e
-    | no q ↦ rw (getD-set-other os i j o 0 q, getD-set-other ws i j w 0 q) (C .marked j (omega arith))
-  ];
+  tidy = each-set (λ j x. x < 2 ^ (8 * wordBytes m)) ws i w (omega (arith, C .long)) l (C .tidy);
+  marked = each-set (λ j x. x ≡ wordMarks m zeroGroup (getD (set ws i w) j 0)) os i o (omega (arith, C .room))
+      (rw (getD-set-same ws i w 0 (omega (arith, C .long))) e) (λ j b. rw (getD-set-other ws i j w 0 (λ q. omega arith)) (C .marked j b));
 }
 
 pub wiping-more : {m spare : ℕ} {before : List ℕ} {i left : ℕ} {ws os : List ℕ} (w z o y : ℕ) → Wiping m spare before i left ws os → i < 16

@@ -3,12 +3,21 @@ use mathlib.Core.Path.{_≡_, sym, _∙_}
 use mathlib.Core.List.{List, [], _∷_, _++_, append-assoc, append-nil}
 use Prim.Native.Nat.{ℕ, _+_, _*_, _≤_, _<_}
 use native.Mathlib.Omega.{arith}
+use native.Mathlib.Decide.{ℕ-discrete}
 use native.Mathlib.Nat.{mul-zero, mul-suc}
 use native.Mathlib.Numerals.{add-one}
 use lib.ListN.{length, getD, set, take, drop, length-append, drop-of-length-le}
 use Rattle.words.proofs.Masks.{groups-long}
-use lib.Seq.{take-suc, take-suc-set, length-take-le, drop-cons, getD-take}
+use lib.Seq.{getD-set-same, getD-set-other, take-suc, take-suc-set, length-take-le, drop-cons, getD-take}
 use Rattle.words.specs.Words.{groupsOf, allGroups, wordGroups, frontGroups, groupsAt, allAt, frontAt}
+
+-- a list that is right up to place i, with what is right there
+pub each-set : (P : ℕ → ℕ → Type 0) (xs : List ℕ) (i x : ℕ) → i < length xs → P i x → ((j : ℕ) → j < i → P j (getD xs j 0))
+    → (j : ℕ) → j < i + 1 → P j (getD (set xs i x) j 0)
+each-set P xs i x l here before j b = elim (ℕ-discrete j i) [
+  | yes q ↦ rw (q, getD-set-same xs i x 0 l) here
+  | no q ↦ rw (getD-set-other xs i j x 0 q) (before j (omega arith))
+]
 
 all-snoc : (m n : ℕ) (ws : List ℕ) (w : ℕ) → allGroups m n (ws ++ w ∷ []) ≡ allGroups m n ws ++ groupsOf m n w
 unfolding allGroups

@@ -13,7 +13,7 @@ use borrow.Author.Tests.{ne-eqb}
 use Rattle.code.specs.Chosen.{patternMost, labels, values}
 use Rattle.code.specs.Deal.{written}
 use Rattle.code.specs.Field.{zeros}
-use Rattle.code.proofs.Chosen.{labels-many, labels-below}
+use Rattle.code.proofs.Chosen.{below-up, labels-many, labels-below}
 use Rattle.words.specs.Words.{groupsOf, groupsAt, wordGroups, frontAt}
 use Rattle.words.specs.Marks.{Marked, bare, skip, mark, Marks, marksOf, nonzeroGroup, picked}
 use Rattle.words.specs.Marks.{groupIn, lessIn, labelIn, writtenMarks, topOf, Leftover, Added, Pickable, Gathered}
@@ -171,10 +171,6 @@ leftover-none {m} {w} {o} {right} {left} f at xs L l h =
 below-front : (v : ℕ) (xs ys : List ℕ) → Below v (xs ++ ys) → Below v xs
 below-front v [] ys b = tt
 below-front v (x ∷ xs) ys b = (b .0, below-front v xs ys (b .1))
-
-below-up : (a b : ℕ) (xs : List ℕ) → a ≤ b → Below a xs → Below b xs
-below-up a b [] h k = tt
-below-up a b (x ∷ xs) h k = (omega (arith, k .0), below-up a b xs h (k .1))
 
 -- the words from word i on are still to be gathered
 pub record Gathering (m n : ℕ) (ws os : List ℕ) (i right : ℕ) (at less : List ℕ) (k : ℕ) : Type 0 where

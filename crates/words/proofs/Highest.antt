@@ -21,25 +21,27 @@ top-facts x p h =
     let e : topOf x ≡ t .0 = omega (arith, t .1) in
     (omega (arith, t .1), rw e (t .2), rw e (t .3))
 
+-- what stands behind it
+behind-top : (x : ℕ) → 0 < x → x < 2 ^ 64 → (x ≡ 1 * 2 ^ topOf x + (x - 2 ^ topOf x)) × (x - 2 ^ topOf x < 2 ^ topOf x)
+behind-top x p h =
+    let f = top-facts x p h in
+    let d = pow-suc 2 (topOf x) in
+    (omega (arith, f), omega (arith, f))
+
 strip-is : (x : ℕ) → 0 < x → x < 2 ^ 64 → bitXor x (1 * 2 ^ topOf x % 2 ^ 64) ≡ x - 2 ^ topOf x
 strip-is x p h =
-    let f = top-facts x p h in
     let k : ℕ = topOf x in
-    let d = pow-suc 2 k in
-    let a : x ≡ 1 * 2 ^ k + (x - 2 ^ k) = omega (arith, f) in
+    let a = behind-top x p h in
     let b : 2 ^ k ≡ 1 * 2 ^ k + 0 = omega arith in
-    let c : bitXor x (2 ^ k) ≡ bitXor (1 * 2 ^ k + (x - 2 ^ k)) (1 * 2 ^ k + 0) = ap₂ bitXor a b in
-    rw (power-shifted k (omega arith)) (c ∙ xor-block k 1 1 (x - 2 ^ k) 0 (omega (arith, f)) (pow-pos k)
+    let c : bitXor x (2 ^ k) ≡ bitXor (1 * 2 ^ k + (x - 2 ^ k)) (1 * 2 ^ k + 0) = ap₂ bitXor (a .0) b in
+    rw (power-shifted k (omega arith)) (c ∙ xor-block k 1 1 (x - 2 ^ k) 0 (a .1) (pow-pos k)
     ∙ rw (xor-self 1, xor-zero-r (x - 2 ^ k), zero-mul, zero-add))
 
 -- the same by a mask
 pub mask-is : (x m : ℕ) → 0 < x → x < 2 ^ 64 → m ≡ 2 ^ topOf x - 1 → bitAnd x m ≡ x - 2 ^ topOf x
 mask-is x m p h e =
-    let f = top-facts x p h in
-    let k : ℕ = topOf x in
-    let d = pow-suc 2 k in
-    let a : x ≡ 1 * 2 ^ k + (x - 2 ^ k) = omega (arith, f) in
-    rw (e, and-mask x k) (ap (λ (y : ℕ). y % 2 ^ k) a ∙ low 1 k (omega (arith, f)))
+    let a = behind-top x p h in
+    rw (e, and-mask x (topOf x)) (ap (λ (y : ℕ). y % 2 ^ topOf x) (a .0) ∙ low 1 (topOf x) (a .1))
 
 pub top-is : (x k : ℕ) → 2 ^ k ≤ x → x < 2 ^ suc k → suc k ≤ 64 → topOf x ≡ k
 top-is x k a b h = omega (arith, leading-unique 64 x (64 - suc k) (suc k) (omega arith) b (omega (arith, pow-suc 2 k)))
@@ -55,10 +57,8 @@ top-or-one x p h =
     let k : ℕ = topOf x in
     let z : bitOr (x / 2) (1 / 2) ≡ x / 2 = or-zero-r (x / 2) in
     let a : bitOr x 1 ≡ x / 2 * 2 + 1 = or-step x 1 ∙ rw z (omega arith) in
-    rw a (
-      top-facts (x / 2 * 2 + 1) (omega arith) (omega arith) .0,
-      top-is (x / 2 * 2 + 1) k (odd-above k x (f .1)) (omega (arith, f .2, pow-suc 2 k)) (omega arith),
-    )
+    let t = top-is (x / 2 * 2 + 1) k (odd-above k x (f .1)) (omega (arith, f .2, pow-suc 2 k)) (omega arith) in
+    rw a (top-facts (x / 2 * 2 + 1) (omega arith) (omega arith) .0, t)
 
 -- a group, as code takes it out of a word
 pub group-is : (u m e : ℕ) → m ≤ 4 → e ≡ 2 ^ m - 1 → (bitAnd u e ≡ u % 2 ^ m) × (bitAnd u e < 16)
@@ -68,11 +68,9 @@ group-is u m e h q = rw (q, and-mask u m) (refl, lt-of-lt-of-le (mod-lt u (pow-p
 one-more : (x : ℕ) → 0 < x → x < 2 ^ 64 → ones x ≡ suc (ones (x - 2 ^ topOf x))
 unfolding ones onesIn
 one-more x p h =
-    let f = top-facts x p h in
     let k : ℕ = topOf x in
-    let d = pow-suc 2 k in
-    let a : x ≡ 1 * 2 ^ k + (x - 2 ^ k) = omega (arith, f) in
-    let e : ones x ≡ ones 1 + ones (x - 2 ^ k) = ap ones a ∙ ones-cat k 1 (x - 2 ^ k) (omega (arith, f)) in
+    let a = behind-top x p h in
+    let e : ones x ≡ ones 1 + ones (x - 2 ^ k) = ap ones (a .0) ∙ ones-cat k 1 (x - 2 ^ k) (a .1) in
     omega arith
 
 strip-ones : (x : ℕ) → x < 2 ^ 64 → ones (x - 2 ^ topOf x) ≡ ones x - 1

@@ -3,12 +3,12 @@ use mathlib.Core.Path.{_≡_, refl, sym, ap, _∙_}
 use mathlib.Core.List.{List, [], _∷_, _++_}
 use Prim.Native.Nat.{ℕ, zero, suc, _+_, _*_, _-_, _^_, _≤_, _<_}
 use native.Mathlib.Omega.{arith}
-use native.Mathlib.Decide.{ℕ-discrete, decLt}
+use native.Mathlib.Decide.{decLt}
 use native.Mathlib.Nat.{add-zero, mod-eq-of-lt, lt-of-lt-of-le}
 use lib.Count.{ones}
 use lib.Pow.{pow-mono}
 use lib.ListN.{length, getD, set, take, drop, replicate, length-append, length-replicate, length-set}
-use lib.Seq.{take-add, length-take-le, getD-set-same, getD-set-other}
+use lib.Seq.{take-add, length-take-le, getD-set-other}
 use Rattle.code.specs.Field.{zeros, erase, lay}
 use Rattle.code.specs.Lists.{Upto}
 use Rattle.code.proofs.Groups.{erase-zeros, erase-length, lay-length}
@@ -16,7 +16,7 @@ use Rattle.words.specs.Words.{allGroups, wordBytes, wordGroups, frontGro
 use Rattle.words.specs.Marks.{blanksTo, groupsIn, marksOf, zeroGroup, wordMarks, topOf, stripped, ZeroMarked, Blanks, WordLaid, Layered}
 use Rattle.words.proofs.Sizes.{word-fits}
 use Rattle.words.proofs.Masks.{groups-long, marks-lt}
-use Rattle.words.proofs.Front.{front-more, front-set}
+use Rattle.words.proofs.Front.{each-set, front-more, front-set}
 use Rattle.words.proofs.Seeing.{zeros-ones, zeros-append}
 use Rattle.words.proofs.Packed.{packed, packed-lt, groups-packed, packed-groups, groups-upto}
 use Rattle.words.proofs.Stripping.{marks-kept, marks-none, left-one, left-more, left-laid}
@@ -172,10 +172,7 @@ module _ {m : ℕ} {ps before : List ℕ} {i : ℕ} {ws : List ℕ} (C : Laid m 
       record {
         was = C .was;
         long = rw length-set (C .long);
-        tidy = λ j b. elim (ℕ-discrete j i) [
-          | yes q ↦ rw (q, getD-set-same ws i x 0 (omega (arith, C .long))) (F .tidy)
-          | no q ↦ rw (getD-set-other ws i j x 0 q) (C .tidy j (omega arith))
-        ];
+        tidy = each-set (λ j y. y < 2 ^ (8 * wordBytes m)) ws i x (omega (arith, C .long)) (F .tidy) (C .tidy);
         same = λ j b. getD-set-other ws i j x 0 (λ q. omega arith) ∙ C .same j (omega arith);
         made = rw (front-set m i x ws (omega (arith, C .long)), C .made, ← a, F .made, parts, more)
             (sym (lay-append front gs (take at ps) (take (zeros gs) (drop at ps)) (length-take-le at ps l ∙ a)));

@@ -8,12 +8,11 @@ use lib.Pow.{pow-add, pow-mono, high}
 use lib.ListN.{length, getD, set, take, length-set}
 use lib.Seq.{take-all, take-append-add}
 use Rattle.words.specs.Words.{groupsOf, allGroups, wordBytes, wordGroups, frontGroups, groupsAt, allAt, frontAt}
-use Rattle.words.specs.Marks.{Marked, bare, skip, mark, AllMarks, lows, wordLows, Ends, Fronted}
+use Rattle.words.specs.Marks.{Marked, bare, skip, mark, Marks, AllMarks, lows, wordLows, Ends, Fronted}
 use Rattle.words.proofs.Sizes.{word-fits}
 use Rattle.words.proofs.Masks.{lows-lt, groups-long}
 use Rattle.words.proofs.Picked.{marked-lt, at-mark, at-none}
-use Rattle.words.proofs.Front.{front-more, at-set, front-long}
-use Rattle.words.proofs.Seeing.{marks-more}
+use Rattle.words.proofs.Front.{each-set, front-more, at-set, front-long}
 
 lows-parts : (m a b : ℕ) → lows m (a + b) ≡ lows m a * 2 ^ (m * b) + lows m b
 unfolding lows
@@ -100,7 +99,7 @@ module _ {m i : ℕ} {os : List ℕ} (hm : 2 ≤ m) (lm : m ≤ 4) (C : Marking 
       let k = leading-all m (omega arith) (wordGroups m) in
       record {
         long = rw length-set (C .long);
-        marks = marks-more m i (wordLows m) os (omega (arith, C .long)) (k .marked) (C .marks);
+        marks = each-set (λ j x. Marks m x) os i (wordLows m) (omega (arith, C .long)) (k .marked) (C .marks);
         held = λ ws l.
             let w = getD ws i 0 in
             at-set m i (wordLows m) os ws (omega (arith, C .long)) (omega arith)
@@ -121,7 +120,7 @@ marking-last {m} {n} {h} {os} {i} E C s =
     let o : ℕ = lows m g / 2 ^ (m * b) * 2 ^ (m * b) % 2 ^ 64 in
     rw (over-is E) (record {
       long = rw length-set (C .long);
-      marks = λ j b. marks-more m i o os (omega (arith, C .long, E .few)) (k .marked) (C .marks) j (omega arith);
+      marks = λ j b. each-set (λ j x. Marks m x) os i o (omega (arith, C .long, E .few)) (k .marked) (C .marks) j (omega arith);
       held = λ ws r.
           let gs = groupsOf m g (getD ws i 0) in
           let front = frontGroups m i ws in

@@ -4,19 +4,17 @@ use mathlib.Core.Bool.{Bool, true, false, cond, not}
 use mathlib.Core.List.{List, [], _∷_, _++_}
 use Prim.Native.Nat.{ℕ, zero, suc, _+_, _*_, _-_, _/_, _%_, _^_, _≤_, _<_}
 use native.Mathlib.Omega.{arith}
-use native.Mathlib.Decide.{ℕ-discrete}
 use native.Mathlib.Nat.{one-mul, zero-mul, zero-add}
 use lib.Count.{ones, onesIn, ones-cat}
 use lib.Dec.{eqb}
 use lib.ListN.{length, getD, set, length-append, length-set}
-use lib.Seq.{getD-set-same, getD-set-other}
 use borrow.Author.Tests.{ne-eqb}
 use Rattle.code.specs.Field.{zeros, unerased}
 use Rattle.words.specs.Words.{groupsOf, allGroups, wordGroups, frontGroups, groupsAt, allAt, frontAt}
 use Rattle.words.specs.Marks.{Marks, AllMarks, marksOf, picked, zeroGroup, openGroup, wordMarks, Viewed}
 use Rattle.words.proofs.Masks.{groups-long, marks-lt}
 use Rattle.words.proofs.Picked.{groups-picked, picked-skip, picked-mark, marked-lt, marks-marked}
-use Rattle.words.proofs.Front.{front-more, at-set}
+use Rattle.words.proofs.Front.{each-set, front-more, at-set}
 
 -- the groups that pass a test are those at its marks
 unfoldable passing : (ℕ → Bool) → List ℕ → List ℕ
@@ -90,13 +88,6 @@ unerased-append e (x ∷ xs) ys = rw (unerased-append e xs ys) (go (eqb x e))
     go true = refl
     go false = refl
 
--- marks of words, one word more
-pub marks-more : (m i o : ℕ) (os : List ℕ) → i < length os → Marks m o → AllMarks m i os → AllMarks m (i + 1) (set os i o)
-marks-more m i o os l k h j b = elim (ℕ-discrete j i) [
-  | yes q ↦ rw (q, getD-set-same os i o 0 l) k
-  | no q ↦ rw (getD-set-other os i j o 0 q) (h j (omega arith))
-]
-
 -- the first i words are seen
 pub record Viewing (m : ℕ) (ws : List ℕ) (i : ℕ) (os : List ℕ) (z u : ℕ) : Type 0 where
   pub long : length os ≡ 16
@@ -127,7 +118,7 @@ module _ {m : ℕ} {ws : List ℕ} {i : ℕ} {os : List ℕ} {z u : ℕ} (C : Vi
         blank = rw (more, zeros-append front gs) (omega (arith, C .blank, ex .0, zeros-ones m gs (omega arith)));
         many = rw (more, both, length-append (unerased e front) (unerased e gs))
             (omega (arith, C .many, ey .0, ap ones eo, unerased-ones m e gs (omega arith)));
-        marks = marks-more m i o os (omega (arith, C .long)) (rw eo (marks-marked m (omega arith) k w (openGroup e))) (C .marks);
+        marks = each-set (λ j x. Marks m x) os i o (omega (arith, C .long)) (rw eo (marks-marked m (omega arith) k w (openGroup e))) (C .marks);
         held = rw (more, both, at-set m i o os ws (omega (arith, C .long)) (omega arith), C .held, eo, unerased-at m k w e (omega arith));
       }
 

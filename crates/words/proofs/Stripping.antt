@@ -5,7 +5,6 @@ use Prim.Native.Nat.{ℕ, zero, suc, _+_, _*_, _-_, _^_, _≤_, _<_}
 use native.Mathlib.Omega.{arith}
 use native.Mathlib.Decide.{decLt}
 use native.Mathlib.Nat.{mul-suc, pow-suc, add-suc, add-zero}
-use lib.Pow.{pow-pos}
 use lib.ListN.{length}
 use borrow.Author.Tests.{ne-eqb}
 use Rattle.code.specs.Field.{zeros, erase, lay}

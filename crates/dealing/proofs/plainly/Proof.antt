@@ -50,10 +50,9 @@ plainly-spec =
     -- loop-again
     (λ c.
     let s = c .before .before .before .loop in
-    let a = c .before .before .before .before .args in (
-      rw (c .put-two .ensures) (simp length-set (s .inv .0)),
-      rw (c .put-two .ensures) (fill-two (a .e) (a .x) (a .s) (s .values) (omega arith) (omega arith) (s .i) (s .x) (omega arith) (s .inv .1)),
-    ))
+    let a = c .before .before .before .before .args in
+    let F = fill-two (a .e) (a .x) (a .s) (s .values) (omega arith) (omega arith) (s .i) (s .x) (omega arith) (s .inv .1) in
+    (rw (c .put-two .ensures) (simp length-set (s .inv .0)), rw (c .put-two .ensures) F))
     -- rem-values
     (λ c. search needs)
     -- cast-values

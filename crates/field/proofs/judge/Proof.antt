@@ -24,10 +24,9 @@ judge-spec =
     (λ c.
     let a = c .before .before .before .before .before .before .before in
     let p = c .before .before .before .past in
-    let used = c .before .before .before .before .if1 .left in (
-      reads-at (a .pre .0) (a .pre .1) (a .pre .2) used _ (p .ensures .0) _ (rw (c .before .before .if2 .taken) (c .judge-first .ensures .0)),
-      c .judge-first .ensures .1,
-    ))
+    let used = c .before .before .before .before .if1 .left in
+    let J = c .judge-first .ensures in
+    (reads-at (a .pre .0) (a .pre .1) (a .pre .2) used _ (p .ensures .0) _ (rw (c .before .before .if2 .taken) (J .0)), J .1))
     (λ c. search needs)
     (λ c. search needs)
     (λ c. search needs)

@@ -29,7 +29,6 @@ judge-first-spec =
     ((G, omega (arith, G .bounds .t-low), F .0), (ap length (F .1) ∙ H .many, rw (F .1) (a .pre .3))))
     -- returns
     (λ c.
-    let a = c .before .before .before .before .before in (
-      c .judge-at .ensures _ (sym (first-marked (a .pre .0) (a .pre .1) (c .before .before .mark-all .ensures) .1)),
-      c .before .before .mark-all .ensures .long,
-    )))
+    let a = c .before .before .before .before .before in
+    let F = c .before .before .mark-all .ensures in
+    (c .judge-at .ensures _ (sym (first-marked (a .pre .0) (a .pre .1) F .1)), F .long)))

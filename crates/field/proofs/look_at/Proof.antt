@@ -18,11 +18,9 @@ look-at-spec =
     -- judge-requires
     (λ c κs.
     let l = c .before .before .before .before .before in
-    let a = l .before .before .before .before .before in (
-      a .pre .0 .0,
-      loaded-holds (a .pre .0 .0) _ (a .pre .0 .1) (l .before .before .before .order .ensures) (l .load .ensures),
-      c .before .before .see .ensures,
-    ))
+    let a = l .before .before .before .before .before in
+    let H = loaded-holds (a .pre .0 .0) _ (a .pre .0 .1) (l .before .before .before .order .ensures) (l .load .ensures) in
+    (a .pre .0 .0, H, c .before .before .see .ensures))
     -- returns
     (λ c.
     let v = c .before .before .before in

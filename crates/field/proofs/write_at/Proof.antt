@@ -22,9 +22,5 @@ write-at-spec =
     -- returns
     (λ c.
     let a = c .before .before .before .before .before .before .before .before .before .before .before in
-    let W = c .before .before .store .ensures in
-    rw (
-      c .before .before .before .before .before .order .ensures,
-      stored-groups (width (a .pre .0 .0) (a .pre .1 .0))
-          (c .before .before .before .before .before .before .before .«erase-and-lay» .ensures),
-    ) at W))
+    let g = stored-groups (width (a .pre .0 .0) (a .pre .1 .0)) (c .before .before .before .before .before .before .before .«erase-and-lay» .ensures) in
+    rw (c .before .before .before .before .before .order .ensures, g) at (c .before .before .store .ensures)))

@@ -35,11 +35,9 @@ grant-spec =
     let o = c .before .before .before .before in
     let a = o .before .args in
     let e = o .all-ones .result in
-    let out = o .before .pre .1 .0 in
-    let q = o .all-ones .ensures .0 in
     let T = tail-begin (a .g) e (a .s .t) (rangesOf (a .s)) (omega arith) (ranges-length (a .s)) (omega arith) (o .before .pre .1 .1) in
     let L = least-last e (e - 1) 1 (c .before .before .before .last-count .ensures) in
-    c .refuse .ensures ∙ refused (a .s) out q T (a .s .t - 1) (omega arith) L (omega arith) (c .before .before .if1 .taken))
+    c .refuse .ensures ∙ refused (a .s) (o .before .pre .1 .0) (o .all-ones .ensures .0) T (a .s .t - 1) (omega arith) L (omega arith) (c .before .before .if1 .taken))
     -- sub-i
     (λ c. search needs)
     -- mul-h
@@ -57,11 +55,9 @@ grant-spec =
     let o = c .before .before .before in
     let a = o .before .args in
     let e = o .all-ones .result in
-    let out = o .before .pre .1 .0 in
-    let q = o .all-ones .ensures .0 in
     let T = tail-begin (a .g) e (a .s .t) (rangesOf (a .s)) (omega arith) (ranges-length (a .s)) (omega arith) (o .before .pre .1 .1) in
     let L = least-last e (e - 1) 1 (c .before .before .last-count .ensures) in
-    (stored (a .s) out q T (a .s .t - 1) (omega arith) L (omega arith), omega arith, L .above, c .before .if1 .left))
+    (stored (a .s) (o .before .pre .1 .0) (o .all-ones .ensures .0) T (a .s .t - 1) (omega arith) L (omega arith), omega arith, L .above, c .before .if1 .left))
     -- sub-climb
     (λ c. search needs)
     -- climb-requires
@@ -74,10 +70,8 @@ grant-spec =
     let o = c .before .before .before .before .before .before .before .before .before in
     let a = o .before .args in
     let e = o .all-ones .result in
-    let out = o .before .pre .1 .0 in
-    let q = o .all-ones .ensures .0 in
     let L = least-room e (e - 1) 1 (s .inv .2) (least-from (e - 1) 1 (a .s .v) (omega arith) (c .before .before .before .climb .ensures) (omega arith)) in
-    c .refuse2 .ensures ∙ refused (a .s) out q (s .inv .0) (s .i - 1) (omega arith) L (omega arith) (c .before .before .if2 .taken))
+    c .refuse2 .ensures ∙ refused (a .s) (o .before .pre .1 .0) (o .all-ones .ensures .0) (s .inv .0) (s .i - 1) (omega arith) L (omega arith) (c .before .before .if2 .taken))
     -- sub-i-2
     (λ c. search needs)
     -- mul-h-2
@@ -92,10 +86,8 @@ grant-spec =
     let o = c .before .before .before .before .before .before .before in
     let a = o .before .args in
     let e = o .all-ones .result in
-    let out = o .before .pre .1 .0 in
-    let q = o .all-ones .ensures .0 in
     let L = least-room e (e - 1) 1 (s .inv .2) (least-from (e - 1) 1 (a .s .v) (omega arith) (c .before .climb .ensures) (omega arith)) in
-    (stored (a .s) out q (s .inv .0) (s .i - 1) (omega arith) L (omega arith), omega arith, omega (arith, L .above), c .if2 .left))
+    (stored (a .s) (o .before .pre .1 .0) (o .all-ones .ensures .0) (s .inv .0) (s .i - 1) (omega arith) L (omega arith), omega arith, omega (arith, L .above), c .if2 .left))
     -- first-requires
     (λ c κs. search needs)
     -- add-need
@@ -113,11 +105,9 @@ grant-spec =
     let o = f .before .before .before .before .before .before in
     let a = o .before .args in
     let e = o .all-ones .result in
-    let out = o .before .pre .1 .0 in
-    let q = o .all-ones .ensures .0 in
     let first = firstOf (a .s) in
     let L = least-room e e first (s .inv .2) (least-from e first (a .s .v) (omega arith) (c .before .before .before .climb2 .ensures) (omega arith)) in
-    c .refuse3 .ensures ∙ first-refused (a .s) out q (s .inv .0) (s .i - 1) (omega arith) (omega arith) L (c .before .before .if3 .taken))
+    c .refuse3 .ensures ∙ first-refused (a .s) (o .before .pre .1 .0) (o .all-ones .ensures .0) (s .inv .0) (s .i - 1) (omega arith) (omega arith) L (c .before .before .if3 .taken))
     -- element-write-h-3
     (λ c. search needs)
     -- returns-4
@@ -127,8 +117,6 @@ grant-spec =
     let o = f .before .before .before .before .before .before in
     let a = o .before .args in
     let e = o .all-ones .result in
-    let out = o .before .pre .1 .0 in
-    let q = o .all-ones .ensures .0 in
     let first = firstOf (a .s) in
     let L = least-room e e first (s .inv .2) (least-from e first (a .s .v) (omega arith) (c .before .climb2 .ensures) (omega arith)) in
-    first-stored (a .s) out q (s .inv .0) (s .i - 1) (omega arith) (omega arith) L (c .if3 .left) (omega arith)))
+    first-stored (a .s) (o .before .pre .1 .0) (o .all-ones .ensures .0) (s .inv .0) (s .i - 1) (omega arith) (omega arith) L (c .if3 .left) (omega arith)))

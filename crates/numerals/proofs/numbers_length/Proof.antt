@@ -38,14 +38,9 @@ numbers-length-spec =
     (λ c. search needs)
     (λ c. search needs)
     -- loop-again
-    (λ c. (
-      omega arith,
-      omega (
-        arith,
-        length-next (now (c .before .before .before .before .before .args .numbers)) (c .before .before .before .loop .i)
-            (c .before .before .loop-test .taken),
-      ),
-    ))
+    (λ c.
+    let xs = now (c .before .before .before .before .before .args .numbers) in
+    (omega arith, omega (arith, length-next xs (c .before .before .before .loop .i) (c .before .before .loop-test .taken))))
     -- returns
     (λ c.
     let i : c .before .loop .i ≡ length (now (c .before .before .before .args .numbers)) = omega arith in

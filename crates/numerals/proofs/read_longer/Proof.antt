@@ -1,5 +1,5 @@
 -- `numerals::read_longer` meets its contract. Assumes nothing.
-use Prim.Native.Nat.{_-_}
+use Prim.Native.Nat.{_+_, _*_, _-_, _^_, _<_}
 use native.Mathlib.Omega.{arith}
 use native.Mathlib.Nat.{add-assoc}
 use borrow.Author.Needs.{needs}
@@ -14,6 +14,14 @@ Inv-loop bytes at low value₀ worth₀ i₀ value worth i = Reading bytes at va
 
 abbrev μ-loop : tie.MeasureT-loop
 μ-loop bytes at low value₀ worth₀ i₀ value worth i = length bytes - i
+
+-- seven bits more fit
+group-fits : (c : tie.Else3 Inv-loop μ-loop) →
+    let s = c .before .before .before .before .loop in
+    s .value + (getD (now (c .before .before .before .before .before .args .bytes)) (s .i) 0 - 128) * s .worth < 2 ^ 63
+group-fits c =
+    let s = c .before .before .before .before .loop in
+    reading-small (s .inv) _ (omega (arith, c .before .before .shared-slice-known .given (s .i)))
 
 pub read-longer-spec : {M : Type 1} → statement M
 read-longer-spec =
@@ -47,19 +55,9 @@ read-longer-spec =
     (λ c. let s = c .before .before .before .before .loop in
     rw (reading-tenth (s .inv) (c .before .before .before .loop-test .taken) (c .before .if1 .left) (omega arith)))
     -- mul-value
-    (λ c. let s = c .before .before .before .before .loop in
-    omega (
-      arith,
-      reading-small (s .inv) (getD (now (c .before .before .before .before .before .args .bytes)) (s .i) 0 - 128)
-          (omega (arith, c .before .before .shared-slice-known .given (s .i))),
-    ))
+    (λ c. omega (arith, group-fits c))
     -- add-value
-    (λ c. let s = c .before .before .before .before .loop in
-    omega (
-      arith,
-      reading-small (s .inv) (getD (now (c .before .before .before .before .before .args .bytes)) (s .i) 0 - 128)
-          (omega (arith, c .before .before .shared-slice-known .given (s .i))),
-    ))
+    (λ c. omega (arith, group-fits c))
     -- mul-worth
     (λ c. omega arith)
     -- add-i-2

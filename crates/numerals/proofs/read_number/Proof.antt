@@ -25,12 +25,9 @@ read-number-spec =
     (λ c. search needs)
     -- returns-2
     (λ c.
-    let a = c .before .before .before .before .args in
-    rw (
-      drop-cons (now (a .bytes)) (a .at) 0 (c .before .before .if1 .left),
-      read-last 8 (getD (now (a .bytes)) (a .at) 0)
-          (drop (suc (a .at)) (now (a .bytes))) (c .if2 .taken),
-    ))
+    let at = c .before .before .before .before .args .at in
+    let bytes = now (c .before .before .before .before .args .bytes) in
+    rw (drop-cons bytes at 0 (c .before .before .if1 .left), read-last 8 (getD bytes at 0) (drop (suc at) bytes) (c .if2 .taken)))
     -- read-longer-requires
     (λ c κs. omega (arith, c .before .shared-slice-known2 .given (c .before .before .before .before .args .at)))
     -- returns-3

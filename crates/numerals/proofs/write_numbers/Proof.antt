@@ -41,11 +41,9 @@ write-numbers-spec =
     (λ c. search needs)
     -- loop-again
     (λ c.
-    let s = c .before .before .before .before .before .before in (
-      omega arith,
-      rw (numerals-next (now (s .before .before .before .args .numbers)) (s .loop .i)
-          (c .before .before .before .before .before .loop-test .taken)) (put-then (s .loop .inv .1) (c .before .before .write-number .ensures)),
-    ))
+    let s = c .before .before .before .before .before .before in
+    let n = numerals-next (now (s .before .before .before .args .numbers)) (s .loop .i) (c .before .before .before .before .before .loop-test .taken) in
+    (omega arith, rw n (put-then (s .loop .inv .1) (c .before .before .write-number .ensures))))
     -- same-length
     (λ c. put-length (c .before .loop .inv .1))
     -- returns

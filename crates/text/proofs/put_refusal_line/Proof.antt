@@ -26,10 +26,8 @@ put-refusal-line-spec =
     (λ c. search needs)
     -- returns
     (λ c.
-    let p = within-then (within-then (c .before .before .before .before .before .before .before .before .before .before .before .put-decimal .ensures)
-    (c .before .before .before .before .before .before .put-labelled .ensures)) (exactly (c .before .before .put-byte .ensures)) in
-    let refused : c .before .before .before .before .before .before .before .before .before .before .before .before .before .before .args .refusal ≡ 0 →
-    ⊥ = λ e. absurd (omega
-    (arith, c .before .before .before .before .before .before .before .before .before .before .before .before .before .before .pre .0)) in
-    rw (ne-eqb (c .before .before .before .before .before .before .before .before .before .before .before .before .before .before .args .refusal) 0 refused)
-    (simp append-assoc at p)))
+    let label = c .before .before .before .before .before .before in
+    let serial = label .before .before .before .before .before in
+    let a = serial .before .before .before in
+    let p = within-then (within-then (serial .put-decimal .ensures) (label .put-labelled .ensures)) (exactly (c .before .before .put-byte .ensures)) in
+    rw (ne-eqb (a .args .refusal) 0 (λ e. absurd (omega (arith, a .pre .0)))) (simp append-assoc at p)))

@@ -36,12 +36,8 @@ erase-spec =
     (λ c.
     let pre = c .before .before .before .before .before .before .before .pre in
     let w = wipes-is _ (pre .0) (pre .1) _ _ _ _ (c .before .«zero-marks» .ensures) (c .«take-spare» .ensures .0) in
-    record {
-      fits = rw (
-        c .before .before .before .before .before .before .«low-bits» .ensures,
-        c .before .before .before .before .before .«low-ones» .ensures,
-      ) (w .fits);
-    })
+    let l = c .before .before .before .before .before in
+    record { fits = rw (l .before .«low-bits» .ensures, l .«low-ones» .ensures) (w .fits) })
     (λ c. search needs)
     (λ c. search needs)
     (λ c. search needs)

@@ -27,12 +27,8 @@ gather-spec =
     (λ c κs. search needs)
     -- sub-right
     (λ c.
-    omega (
-      arith,
-      c .ones .ensures .0,
-      gathering-right (c .before .before .before .before .before .pre .0 .0) (omega arith)
-          (c .before .before .before .loop .inv .1),
-    ))
+    let right = gathering-right (c .before .before .before .before .before .pre .0 .0) (omega arith) (c .before .before .before .loop .inv .1) in
+    omega (arith, c .ones .ensures .0))
     (λ c. search needs)
     (λ c. search needs)
     -- gather-word-requires

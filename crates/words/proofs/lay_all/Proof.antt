@@ -24,10 +24,9 @@ lay-all-spec =
     (λ c. digits-room (c .before .before .loop .inv) (omega arith))
     (λ c κs. search needs)
     -- put-requires
-    (λ c κs. (
-      c .before .before .top .ensures .1,
-      rw (c .wide .ensures .0, c .before .before .top .ensures .0) (digits-fits (c .before .before .before .before .loop .inv) (omega arith)),
-    ))
+    (λ c κs.
+    let t = c .before .before .top .ensures in
+    (t .1, rw (c .wide .ensures .0, t .0) (digits-fits (c .before .before .before .before .loop .inv) (omega arith))))
     (λ c κs. search needs)
     -- add-i
     (λ c. omega (arith, digits-room (c .before .before .before .before .before .before .loop .inv) (omega arith)))

@@ -31,10 +31,8 @@ mark-zeros-spec =
     (λ c. search needs)
     (λ c. search needs)
     -- loop-again
-    (λ c. (
-      omega arith,
-      zero-next _ (c .before .before .before .loop .inv .1) (omega arith)
-          (c .before .before .before .before .before .pre .5 _ (omega arith)) (c .«zero-marks» .ensures),
-    ))
+    (λ c.
+    let tidy = c .before .before .before .before .before .pre .5 _ (omega arith) in
+    (omega arith, zero-next _ (c .before .before .before .loop .inv .1) (omega arith) tidy (c .«zero-marks» .ensures)))
     -- returns
     (λ c. let e : c .before .before .before .args .n ≡ c .before .loop .i = omega arith in rw e (c .before .loop .inv .1)))

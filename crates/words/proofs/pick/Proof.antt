@@ -36,10 +36,7 @@ pick-spec =
     (λ c. search needs)
     -- loop-again
     (λ c.
-    let l = c .before .before .before .before .before .loop in (
-      omega arith,
-      going-more _ _ _ _ (l .inv .1) (pick-more (c .before .before .before .before .before .before .pre .0 .0) _ (omega arith))
-          (c .«pick-word» .ensures),
-    ))
+    let l = c .before .before .before .before .before in
+    (omega arith, going-more _ _ _ _ (l .loop .inv .1) (pick-more (l .before .pre .0 .0) _ (omega arith)) (c .«pick-word» .ensures)))
     -- returns
     (λ c. going-all (pick-none (c .before .before .pre .0 .0) (c .before .loop .i) (omega arith)) (c .before .loop .inv .1)))

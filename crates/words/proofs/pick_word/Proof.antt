@@ -45,10 +45,8 @@ pick-word-spec =
     (λ c.
     let l = c .before .before .before .before .loop in
     let pre = c .before .before .before .before .before .before .pre in
-    rw (c .strip .ensures .0) (
-      marks-less (pre .0 .0) (pre .0 .1) (l .inv .0) (omega arith),
-      filling-more (pre .0 .0) (pre .0 .1) (l .inv .0) (omega arith) (l .inv .1) _
-          (c .before .«group-at» .ensures .0 ∙ ap (groupIn _ _) (c .before .before .top .ensures .0)),
-    ))
+    let g = c .before .«group-at» .ensures .0 ∙ ap (groupIn _ _) (c .before .before .top .ensures .0) in
+    let F = filling-more (pre .0 .0) (pre .0 .1) (l .inv .0) (omega arith) (l .inv .1) _ g in
+    rw (c .strip .ensures .0) (marks-less (pre .0 .0) (pre .0 .1) (l .inv .0) (omega arith), F))
     -- returns
     (λ c. filling-all (omega (arith, c .before .before .before .pre .0 .0)) (omega arith) (c .before .loop .inv .1)))

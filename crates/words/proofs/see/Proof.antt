@@ -36,11 +36,10 @@ see-spec =
     (λ c. search needs)
     (λ c. search needs)
     -- loop-again
-    (λ c. (
-      omega arith,
-      viewing-more (c .before .before .before .before .before .before .loop .inv .1) _ _ _ (omega arith) (omega arith) (omega arith)
-          (c .before .before .before .«open-marks» .ensures)
-          (c .before .ones .ensures .0 ∙ ap ones (c .before .before .«zero-marks» .ensures), c .before .ones .ensures .1) (c .ones2 .ensures),
-    ))
+    (λ c.
+    let m = c .before .before .before in
+    let z = c .before .ones .ensures .0 ∙ ap ones (c .before .before .«zero-marks» .ensures) in
+    let view = m .before .before .before .loop .inv .1 in
+    (omega arith, viewing-more view _ _ _ (omega arith) (omega arith) (omega arith) (m .«open-marks» .ensures) (z, c .before .ones .ensures .1) (c .ones2 .ensures)))
     -- returns
     (λ c. let e : c .before .before .before .args .n ≡ c .before .loop .i = omega arith in rw e (viewing-all (c .before .loop .inv .1))))

@@ -15,10 +15,9 @@ take-spare-spec =
     (λ c. unfold stripped in search needs)
     (λ c κs. search needs)
     -- returns-2
-    (λ c. (
-      sym (stripped-none _ _ (c .before .before .before .fits .marks .fits) (omega (arith, c .before .ones .ensures .0))),
-      rw (c .before .ones .ensures .0),
-    ))
+    (λ c.
+    let o = c .before .ones .ensures .0 in
+    (sym (stripped-none _ _ (c .before .before .before .fits .marks .fits) (omega arith)), rw o))
     (λ c κs. search needs)
     -- returns-3
     (λ c. (c .skip .ensures, omega arith)))

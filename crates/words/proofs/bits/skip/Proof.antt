@@ -29,10 +29,8 @@ skip-spec =
     (λ c. search needs)
     (λ c. search needs)
     -- loop-again
-    (λ c. (
-      omega arith,
-      rw (c .«top-odd» .ensures .0, c .before .before .loop .inv .1)
-          (stripped-xor _ _ (c .before .before .before .fits .x .fits) (omega arith)),
-    ))
+    (λ c.
+    let s = stripped-xor _ _ (c .before .before .before .fits .x .fits) (omega arith) in
+    (omega arith, rw (c .«top-odd» .ensures .0, c .before .before .loop .inv .1) s))
     -- returns
     (λ c. let e : c .before .before .args .count ≡ c .before .loop .i = omega arith in rw e (c .before .loop .inv .1)))
