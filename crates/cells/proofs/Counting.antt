@@ -9,7 +9,7 @@ use lib.Bits.{bitOr, or-add-and, and-le-l}
 use lib.Count.{ones, onesIn, ones-step}
 use lib.ListN.{length}
 use Rattle.code.specs.Cells.{wit, value, sum, turned}
-use Rattle.code.proofs.Bits.{or-snoc}
+use Rattle.code.proofs.Numbers.{or-snoc}
 use Rattle.code.proofs.Wits.{wit-lt, wit-past}
 use Rattle.cells.specs.Cells.{PutWits}
 

@@ -2,7 +2,6 @@ pub mod Octets
 pub mod Values
 pub mod Putting
 pub mod Counting
-pub mod Swapping
 pub mod Regroup
 pub mod Sizes
 pub mod Loading

@@ -12,8 +12,7 @@ use lib.ListN.{length, getD, set, take, length-set}
 use lib.Seq.{getD-take, length-take-le, getD-set-same, getD-set-other}
 use Rattle.code.specs.Cells.{wit, value, listed, group}
 use Rattle.code.proofs.Wits.{wit-lt}
-use Rattle.code.proofs.Numbers.{value-lt, value-same, value-none}
-use Rattle.code.proofs.Parts.{value-split}
+use Rattle.code.proofs.Numbers.{value-lt, value-same, value-none, value-split}
 use Rattle.code.proofs.Cells.{sound-past}
 use Rattle.words.specs.Words.{allGroups, wordBytes, wordGroups}
 use Rattle.cells.specs.Cells.{Loadable, Loaded}

@@ -7,10 +7,8 @@ use native.Mathlib.Omega.{arith}
 use native.Mathlib.Nat.{zero-add, div-one, mod-eq-of-lt}
 use lib.ListN.{length, getD}
 use Rattle.code.specs.Cells.{place, wit, value}
-use Rattle.code.proofs.Bits.{bit, bit-lt}
+use Rattle.code.proofs.Numbers.{bit, bit-lt, value-lt, value-bit, value-is, value-front}
 use Rattle.code.proofs.Wits.{place-lt, place-byte, wit-lt}
-use Rattle.code.proofs.Numbers.{value-lt, value-bit, value-is}
-use Rattle.code.proofs.Parts.{value-front}
 use Rattle.cells.specs.Cells.{octet}
 
 pub octet-lt : (o b : ℕ) → octet o b < 256

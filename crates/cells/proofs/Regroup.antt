@@ -11,9 +11,7 @@ use lib.Pow.{pow-pos, field, mod-mod-pow}
 use lib.ListN.{length, getD, replicate}
 use borrow.Author.Tests.{lt-ltb, le-ltb}
 use Rattle.code.specs.Cells.{value, listed, group, groups, witOf}
-use Rattle.code.proofs.Bits.{bit}
-use Rattle.code.proofs.Numbers.{value-same, value-is}
-use Rattle.code.proofs.Parts.{value-front}
+use Rattle.code.proofs.Numbers.{bit, value-same, value-is, value-front}
 use Rattle.code.proofs.Cells.{witOf-lt}
 use Rattle.words.specs.Words.{groupsOf, allGroups}
 

@@ -10,8 +10,7 @@ use lib.ListN.{length, getD, take}
 use lib.Seq.{take-at}
 use Rattle.code.specs.Cells.{wit, value, listed, group, groups, witOf, stored, turned}
 use Rattle.code.proofs.Wits.{Bytes, wit-lt, wit-ext}
-use Rattle.code.proofs.Numbers.{value-same, value-none, listed-length}
-use Rattle.code.proofs.Parts.{value-split, value-front}
+use Rattle.code.proofs.Numbers.{value-same, value-none, listed-length, value-split, value-front}
 use Rattle.code.proofs.Cells.{groups-wit, witOf-lt, sound-past, stored-wit, stored-length, stored-sound, stored-bytes}
 use Rattle.words.specs.Words.{allGroups, wordBytes, wordGroups}
 use Rattle.cells.specs.Cells.{Storable, Swapped, Stored}

@@ -7,10 +7,8 @@ use native.Mathlib.Nat.{add-zero, mul-add, sub-self, lt-of-lt-of-le, mul-mod-lef
 use lib.Pow.{pow-mono, shl-exact, shl-shr, mod-pow-add, high}
 use lib.ListN.{length, getD}
 use Rattle.code.specs.Cells.{wit, value}
-use Rattle.code.proofs.Bits.{bit}
+use Rattle.code.proofs.Numbers.{bit, value-lt, value-bit, value-none, value-split, value-front}
 use Rattle.code.proofs.Wits.{Bytes, wit-lt, wit-past}
-use Rattle.code.proofs.Numbers.{value-lt, value-bit, value-none}
-use Rattle.code.proofs.Parts.{value-split, value-front}
 use Rattle.cells.specs.Cells.{octet, Start}
 use Rattle.cells.proofs.Octets.{octet-high, octet-value}
 

@@ -15,9 +15,8 @@ use lib.Seq.{ext-getD}
 use Rattle.code.specs.Lists.{Upto}
 use Rattle.code.specs.Cells.{place, wit, value, listed, sum, group, groups, opened, size, sound, witOf, byteOf, stored, ones, turned}
 use Rattle.code.proofs.Tests.{both-true}
-use Rattle.code.proofs.Bits.{bit, bit-full}
+use Rattle.code.proofs.Numbers.{bit, bit-full, value-byte, value-bit, value-is, value-zero, value-none, listed-length, listed-at, sum-difference}
 use Rattle.code.proofs.Wits.{Bytes, wit-lt, wit-past, wit-ext, place-lt, place-place}
-use Rattle.code.proofs.Numbers.{value-byte, value-bit, value-is, value-zero, value-none, listed-length, listed-at, sum-difference}
 use Rattle.code.proofs.Groups.{Grows}
 
 -- n bytes of the wits f

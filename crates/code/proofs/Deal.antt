@@ -96,8 +96,7 @@ deal-is b first s d x pos h hx =
       low = rw (l .marks) (q .0);
       high = rw (l .marks) (q .1);
       small = l .small;
-      back =
-          rw (l .long, l .marks, l .ranked, l .digit) (omega (arith, q .2, div-add-mod' e (b ^ k)));
+      back = rw (l .long, l .marks, l .ranked, l .digit) (omega (arith, q .2, div-add-mod' e (b ^ k)));
     }
 
 -- The way back.

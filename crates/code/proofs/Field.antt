@@ -42,8 +42,7 @@ pattern-is e b first h zero x pos eb ep f l hx =
       low = omega arith;
       keeps = omega arith;
       small = upto-grows (e - 1) b eb (plainly e h (x + 1)) (p .small);
-      back =
-          omega (arith, p .back);
+      back = omega (arith, p .back);
     }
 pattern-is e b first h (suc h′) x pos eb ep f l hx =
     let d = deal-is b first h (h - suc h′) x pos (omega arith) hx in

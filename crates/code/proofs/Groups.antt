@@ -91,8 +91,7 @@ lay-is e (zero ∷ gs) (y ∷ p) pos w l u =
     record {
       carried = rw (ne-eqb y e (λ q. omega (arith, u .0)), ih .carried);
       left = zeros-tails y (lay gs p) p (ih .left);
-      long =
-          ap suc (ih .long);
+      long = ap suc (ih .long);
       small = (omega (arith, u .0), ih .small);
     }
 

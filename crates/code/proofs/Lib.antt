@@ -9,9 +9,8 @@ pub mod CountSteps
 pub mod Groups
 pub mod Field
 pub mod Run
-pub mod Bits
-pub mod Wits
 pub mod Numbers
+pub mod Wits
 pub mod Cells
 pub mod Placed
 pub mod Bytes
@@ -24,7 +23,6 @@ pub mod Published
 pub mod Sample
 pub mod Places
 pub mod Sums
-pub mod Parts
 pub mod Digits
 pub mod Numerals
 pub mod Records

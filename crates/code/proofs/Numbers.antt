@@ -1,14 +1,50 @@
--- The number that wits make, lists of such numbers, and sums of wits. The wits are any function, so none of this looks at bytes.
-use mathlib.Core.Path.{_≡_, refl, sym, ap, _∙_}
-use Prim.Native.Nat.{ℕ, zero, suc, _+_, _-_, _^_, _/_, _≤_, _<_}
+-- Bits of numbers; the number that wits make, by its bits and by its parts, lists of such numbers, and sums of wits. The wits are any function, so none of
+-- this looks at bytes.
+use mathlib.Core.Path.{_≡_, sym, _∙_, refl, ap}
+use Prim.Native.Nat.{ℕ, zero, suc, _+_, _*_, _-_, _^_, _/_, _%_, _<_, max, _≤_}
 use native.Mathlib.Omega.{arith}
+use lib.Pow.{pow-pos, pow-mono, high, low, field, mod-mod-pow}
+use native.Mathlib.Nat.{pow-succ', div-div-eq-div-mul, suc-add, add-suc, add-zero, lt-of-lt-of-le, add-assoc, pow-suc}
+use lib.Bits.{bitOr, or-step}
 use native.Mathlib.Decide.{ℕ-discrete}
-use native.Mathlib.Nat.{pow-succ', suc-add, add-suc, add-zero, lt-of-lt-of-le}
-use lib.Pow.{pow-mono}
 use lib.Arith.{lt-of-le-ne}
 use lib.ListN.{length, getD}
 use Rattle.code.specs.Cells.{value, listed, sum}
-use Rattle.code.proofs.Bits.{bit, bit-suc, bits-ext}
+
+-- bit q of x
+abbrev pub bit : ℕ → ℕ → ℕ
+bit q x = x / 2 ^ q % 2
+
+pub bit-lt : (q x : ℕ) → bit q x < 2
+bit-lt q x = omega arith
+
+pub bit-suc : (q x : ℕ) → bit (suc q) x ≡ bit q (x / 2)
+bit-suc q x = rw (pow-succ', ← div-div-eq-div-mul)
+
+-- numbers of k bits are equal where their bits are
+pub bits-ext : (k a b : ℕ) → a < 2 ^ k → b < 2 ^ k → ((q : ℕ) → q < k → bit q a ≡ bit q b) → a ≡ b
+bits-ext zero a b ha hb e = omega arith
+bits-ext (suc k) a b ha hb e =
+    let half : a / 2 ≡ b / 2 = bits-ext k (a / 2) (b / 2) (omega (arith, pow-succ' 2 k)) (omega (arith, pow-succ' 2 k))
+    (λ q h. sym (bit-suc q a) ∙ e (suc q) (omega arith) ∙ bit-suc q b) in
+    omega (arith, e 0 (omega arith))
+
+-- or of two numbers, by their lowest bits
+pub or-snoc : (a x b y : ℕ) → x < 2 → y < 2 → bitOr (2 * a + x) (2 * b + y) ≡ 2 * bitOr a b + max x y
+or-snoc a x b y hx hy =
+    let p : (2 * a + x) / 2 ≡ a = omega arith in
+    let q : (2 * b + y) / 2 ≡ b = omega arith in
+    let s : (2 * a + x) % 2 ≡ x = omega arith in
+    let t : (2 * b + y) % 2 ≡ y = omega arith in
+    or-step (2 * a + x) (2 * b + y) ∙ rw (p, q, s, t) (omega arith)
+
+-- every bit of all ones is 1
+pub bit-full : (k q : ℕ) → q < k → bit q (2 ^ k - 1) ≡ 1
+bit-full zero q h = absurd (omega arith)
+bit-full (suc k) zero h = omega (arith, pow-succ' 2 k, pow-pos k)
+bit-full (suc k) (suc q) h =
+    let e : (2 ^ suc k - 1) / 2 ≡ 2 ^ k - 1 = omega (arith, pow-succ' 2 k, pow-pos k) in
+    bit-suc q (2 ^ suc k - 1) ∙ rw e (bit-full k q (omega arith))
 
 pub value-same : (f g : ℕ → ℕ) (w n : ℕ) → ((i : ℕ) → i < n → f (w + i) ≡ g (w + i)) → value f w n ≡ value g w n
 unfolding value
@@ -69,3 +105,16 @@ pub sum-difference : (f g : ℕ → ℕ) (n : ℕ) → ((k : ℕ) → f k ≤ g 
 unfolding sum
 sum-difference f g zero e = refl
 sum-difference f g (suc n) e = omega (arith, sum-difference f g n e, e n)
+
+pub value-split : (f : ℕ → ℕ) (w a b : ℕ) → value f w (a + b) ≡ value f w a * 2 ^ b + value f (w + a) b
+unfolding value
+value-split f w a zero = rw (add-zero a) (omega arith)
+value-split f w a (suc b) = rw (add-suc a b, pow-suc 2 b, ← add-assoc w a b) (omega (arith, value-split f w a b))
+
+module _ (f : ℕ → ℕ) (w a : ℕ) where
+  -- the last a + b bits of x are the wits from w on: the first a of them, and the last b
+  pub value-front : (x b : ℕ) → ((k : ℕ) → f k < 2) → x % 2 ^ (a + b) ≡ value f w (a + b) → (x / 2 ^ b % 2 ^ a ≡ value f w a) × (x % 2 ^ b ≡ value f (w + a) b)
+  value-front x b lt e =
+      let q : x % 2 ^ (a + b) ≡ value f w a * 2 ^ b + value f (w + a) b = e ∙ value-split f w a b in
+      let s : value f (w + a) b < 2 ^ b = value-lt f (w + a) b lt in
+      (sym (field x a b) ∙ rw q (high (value f w a) b s), sym (mod-mod-pow x a b) ∙ rw q (low (value f w a) b s))

@@ -7,7 +7,7 @@ use native.Mathlib.Nat.{zero-div, mod-eq-of-lt}
 use lib.ListN.{length, getD, List·getD-eq-default}
 use lib.Seq.{ext-getD}
 use Rattle.code.specs.Cells.{place, wit}
-use Rattle.code.proofs.Bits.{bit-lt, bits-ext}
+use Rattle.code.proofs.Numbers.{bit-lt, bits-ext}
 
 pub place-lt : (o w : ℕ) → place o w < 8
 unfolding place

@@ -1,4 +1,3 @@
-pub mod Steps
 pub mod Walking
 pub mod Unique
 pub mod Runs

@@ -14,7 +14,7 @@ use Rattle.dump.specs.declared.Halt.{Halt}
 use Rattle.dump.specs.declared.Step.{Step}
 use Rattle.dump.specs.declared.Step.the-variants.{Record, End, Stop}
 use Rattle.dump.specs.declared.Walked.{Walked}
-use Rattle.dump.proofs.Steps.{gives-record, gives-end, gives-stop}
+use Rattle.dump.proofs.Walking.{gives-record, gives-end, gives-stop}
 
 -- steps as their promise allows them, each at the place behind the record before, to the end or a stop
 pub data Stepping (bytes : List ℕ) : ℕ → List Step → Type 0 where

@@ -1,27 +1,55 @@
--- What the walk into rows knows: begun, a record more, stopped.
-use Prim.Native.Nat.{ℕ, zero, suc, _+_, _*_, _-_, _/_, _≤_, _<_}
-use mathlib.Core.Path.{_≡_, refl, sym, _∙_}
+-- What the step at a place tells of the walk there, and what the walk into rows knows: begun, a record more, stopped.
+use Prim.Native.Nat.{ℕ, _+_, _≤_, _<_, zero, suc, _*_, _-_, _/_}
+use mathlib.Core.Path.{_≡_, ap, refl, sym, _∙_}
 use mathlib.Core.List.{List, [], _∷_, _++_, append-assoc, append-nil}
 use native.Mathlib.Omega.{arith}
+use Rattle.code.specs.Dump.{taken, ended, stopped, step, outcome, stepValues, stepReply, recordNumbers, walkFrom, rowsOf, closing, walkReply, walkLeaves}
+use Rattle.code.proofs.Steps.{told-record, told-ended, told-stopped}
+use Rattle.code.proofs.Walk.{step-forward, walk-taken, walk-ended, walk-stopped}
+use Rattle.field.specs.Answers.{readingOf}
+use Rattle.field.specs.declared.Reading.{Reading}
+use Rattle.dump.specs.Answers.{dumpMost, haltNumber, haltCarries, stepOf, rowLength, haltedBy}
+use Rattle.dump.specs.declared.Halt.{Halt}
+use Rattle.dump.specs.declared.Halt.the-variants.{Malformed, Oversize}
+use Rattle.dump.specs.declared.Step.{Step}
+use Rattle.dump.specs.declared.Step.the-variants.{Record, End, Stop}
 use native.Mathlib.Nat.{sub-zero}
 use native.Mathlib.Numerals.{add-one}
 use lib.ListN.{length}
 use borrow.Author.Tests.{lt-ltb, le-ltb}
 use Rattle.code.specs.Calls.{filled}
-use Rattle.code.specs.declared.Record as Declared
-use Rattle.code.specs.Dump.{stepReply, recordNumbers, walkFrom, rowsOf, closing, walkReply, walkLeaves}
 use Rattle.code.proofs.LayoutCall.{filled-length}
 use Rattle.code.proofs.Records.{step-oversize}
-use Rattle.code.proofs.Walk.{walk-taken, walk-ended, walk-stopped}
 use Rattle.storing.specs.Put.{Put}
 use Rattle.storing.proofs.Put.{put-none, put-then, put-length, put-pastes}
-use Rattle.field.specs.Answers.{readingOf}
-use Rattle.field.specs.declared.Reading.{Reading}
-use Rattle.dump.specs.Answers.{dumpMost, rowLength, haltNumber, haltCarries, stepOf, haltedBy}
-use Rattle.dump.specs.declared.Halt.{Halt}
-use Rattle.dump.specs.declared.Step.{Step}
-use Rattle.dump.specs.declared.Step.the-variants.{Record, End, Stop}
-use Rattle.dump.proofs.Steps.{gives-record, gives-end, gives-stop}
+use Rattle.code.specs.declared.Record as Declared
+use Rattle.code.specs.Dump as Code
+
+halting : (halt : Halt) → 0 < haltNumber halt
+halting (Malformed offset) = omega arith
+halting Oversize = omega arith
+
+-- what stands at a place fixes the reply there
+pub located-reply : (bytes : List ℕ) (at : ℕ) {s : Code.Step} → s ≡ step bytes at → stepValues bytes s ≡ stepReply bytes at
+unfolding stepReply
+located-reply bytes at e = ap (stepValues bytes) e
+
+module _ (bytes : List ℕ) (at : ℕ) {s : Step} (gives : stepOf s ≡ stepReply bytes at) where
+  pub gives-end : s ≡ End → step bytes at ≡ ended
+  gives-end e = told-ended bytes at (rw e at gives)
+
+  pub gives-stop : {halt : Halt} → s ≡ Stop halt → step bytes at ≡ stopped (haltNumber halt) (haltCarries halt)
+  gives-stop {halt} e = told-stopped bytes at (haltNumber halt) (haltCarries halt) (halting halt) (rw e at gives)
+
+  module _ {r : Declared.Record} {reading : Reading} (e : s ≡ Record r reading) where
+    pub gives-record : (step bytes at ≡ taken r) × (outcome bytes r ≡ readingOf reading)
+    gives-record = told-record bytes at r (readingOf reading) (rw e at gives)
+
+    -- it ends further on, within the dump
+    pub record-further : (at < r .start + r .count) × (r .start + r .count ≤ dumpMost)
+    record-further =
+        let f = step-forward bytes at r (gives-record .0) in
+        (f .1, omega arith)
 
 -- no row is made of a dump that is too long
 no-rows : (bytes : List ℕ) (at : ℕ) → dumpMost < length bytes → (fuel : ℕ) → rowsOf bytes (walkFrom fuel bytes at) ≡ []

@@ -198,8 +198,7 @@ module _ {s : Shape} {h : List ℕ} (G : Granted s h) (bs : List ℕ) where
           some = L .some;
           few = L .few;
           above = rw (← G .each 0) (L .tight);
-          below =
-              rw (← G .each 0) (L .room);
+          below = rw (← G .each 0) (L .room);
         };
         tidy = L .tidy;
         many = rw loaded-groups (groups-length (s .m) (widthOf s) (wit (orderOf s) bs));

@@ -61,8 +61,7 @@ module _ {s : Shape} {h : List ℕ} (G : Granted s h) (x : ℕ) (b : x < s .v) (
         low = omega (arith, G .bounds .t-low);
         ready = record { none = none; blank = λ _. w .1; enough = full };
         made = w .0;
-        readable =
-            refl;
+        readable = refl;
         unspent = refl;
       })
   place (Field.reads j y) reading q = elim (ℕ-discrete j (s .t)) [

@@ -22,7 +22,7 @@ use Rattle.dump.specs.Answers.{haltNumber, haltCarries, stepOf}
 use Rattle.dump.specs.declared.Halt.{Halt}
 use Rattle.dump.specs.declared.Step.{Step}
 use Rattle.dump.specs.declared.Step.the-variants.{Record, End, Stop}
-use Rattle.dump.proofs.Steps.{gives-record, gives-end, gives-stop, record-further}
+use Rattle.dump.proofs.Walking.{gives-record, gives-end, gives-stop, record-further}
 use Rattle.listing.specs.Listing.{linesMost, Refusing, haltLines, textLeft, Standing, GoesOn, Closed, Tells, Fills}
 use Rattle.listing.specs.declared.Listing.{Listing}
 use Rattle.listing.specs.declared.Told.{Told}

@@ -21,8 +21,7 @@ module _ (m n : ℕ) (ws os : List ℕ) (hm : 2 ≤ m) (lm : m ≤ 4) (few : n �
         long = long;
         room = seen .long;
         marks = seen .marks;
-        most =
-            omega (arith, seen .many, ap length (seen .held));
+        most = omega (arith, seen .many, ap length (seen .held));
       }
 
   -- the first h groups can

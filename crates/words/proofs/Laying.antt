@@ -19,8 +19,7 @@ use Rattle.words.proofs.Masks.{groups-long, marks-lt}
 use Rattle.words.proofs.Front.{each-set, front-more, front-set}
 use Rattle.words.proofs.Seeing.{zeros-ones, zeros-append}
 use Rattle.words.proofs.Packed.{packed, packed-lt, groups-packed, packed-groups, groups-upto}
-use Rattle.words.proofs.Stripping.{marks-kept, marks-none, left-one, left-more, left-laid}
-use Rattle.words.proofs.Erasing.{full-some, word-bits}
+use Rattle.words.proofs.Erasing.{marks-kept, marks-none, left-one, left-more, left-laid, full-some, word-bits}
 
 pub lay-nothing : (gs : List ℕ) → lay gs [] ≡ gs
 unfolding lay

@@ -8,10 +8,8 @@ pub mod Highest
 pub mod Filling
 pub mod Gathering
 pub mod Packed
-pub mod Stripping
 pub mod Erasing
 pub mod Laying
 pub mod Digits
-pub mod Scattering
 pub mod Patterns
 pub mod Joined

@@ -2,7 +2,7 @@
 -- Assumes nothing.
 use borrow.Author.Needs.{needs}
 use denote.Ref.{now}
-use Rattle.cells.proofs.Swapping.{swap-roomy, swap-is}
+use Rattle.cells.proofs.Putting.{swap-roomy, swap-is}
 use Rattle.cells.proofs.swap.Statement.{statement}
 use Rattle.cells.proofs.swap.Tie as tie
 

@@ -1,7 +1,7 @@
 -- `cells::swap_eight` meets its contract: the word is all that is put.
 -- Assumes nothing.
 use borrow.Author.Needs.{needs}
-use Rattle.cells.proofs.Swapping.{swap-all}
+use Rattle.cells.proofs.Putting.{swap-all}
 use Rattle.cells.proofs.swap_eight.Statement.{statement}
 use Rattle.cells.proofs.swap_eight.Tie as tie
 

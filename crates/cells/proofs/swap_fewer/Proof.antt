@@ -1,7 +1,7 @@
 -- `cells::swap_fewer` meets its contract: what is behind the word is put as it was.
 -- Assumes nothing.
 use borrow.Author.Needs.{needs}
-use Rattle.cells.proofs.Swapping.{swap-is}
+use Rattle.cells.proofs.Putting.{swap-is}
 use Rattle.cells.proofs.swap_fewer.Statement.{statement}
 use Rattle.cells.proofs.swap_fewer.Tie as tie
 

@@ -26,7 +26,7 @@ granted-here c = plan-granted _ (c .before .lay-into .ensures) (omega arith)
 below-here : (c : tie.Else2) →
     let a = c .before .before .before .before .before .before .args in
     Below (2 ^ 63) (a .serial ∷ a .m ∷ a .t ∷ a .v ∷ length (now (a .cells)) ∷ [])
-below-here c = let G = granted-here c in (omega arith, (omega (arith, G .bounds .m-high), (omega (arith, G .bounds .t-high), (omega (arith, G .bounds .v-high), (omega arith, tt)))))
+below-here c = let B = granted-here c .bounds in (omega arith, (omega arith, (omega arith, (omega arith, (omega arith, tt)))))
 
 sound-here : (c : tie.After-is-sound) →
     let a = c .before .before .before .before .before .before .before .before .args in

@@ -1,7 +1,7 @@
 -- `dump::step_at` meets its contract. Assumes nothing.
 use borrow.Author.Needs.{needs}
 use Rattle.code.specs.Dump.{cellsOf, outcome, stepValues}
-use Rattle.dump.proofs.Steps.{located-reply}
+use Rattle.dump.proofs.Walking.{located-reply}
 use Rattle.dump.proofs.step_at.Statement.{statement}
 use Rattle.dump.proofs.step_at.Tie as tie
 

@@ -2,7 +2,7 @@
 use mathlib.Core.Path.{_∙_}
 use borrow.Author.Needs.{needs}
 use Rattle.code.specs.Dump.{stepValues}
-use Rattle.dump.proofs.Steps.{located-reply}
+use Rattle.dump.proofs.Walking.{located-reply}
 use Rattle.dump.proofs.step_kept.Statement.{statement}
 use Rattle.dump.proofs.step_kept.Tie as tie
 

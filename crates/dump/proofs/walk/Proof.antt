@@ -4,8 +4,7 @@ use native.Mathlib.Omega.{arith}
 use borrow.Author.Needs.{needs}
 use lib.ListN.{length}
 use Rattle.layout.specs.Plan.{Planned}
-use Rattle.dump.proofs.Steps.{record-further}
-use Rattle.dump.proofs.Walking.{Walking, walking-begin, walking-next, walking-end, walking-stop, walking-full, walk-refused}
+use Rattle.dump.proofs.Walking.{record-further, Walking, walking-begin, walking-next, walking-end, walking-stop, walking-full, walk-refused}
 use Rattle.dump.proofs.walk.Statement.{statement}
 use Rattle.dump.proofs.walk.Tie as tie
 

@@ -37,7 +37,8 @@ grant-spec =
     let e = o .all-ones .result in
     let T = tail-begin (a .g) e (a .s .t) (rangesOf (a .s)) (omega arith) (ranges-length (a .s)) (omega arith) (o .before .pre .1 .1) in
     let L = least-last e (e - 1) 1 (c .before .before .before .last-count .ensures) in
-    c .refuse .ensures ∙ refused (a .s) (o .before .pre .1 .0) (o .all-ones .ensures .0) T (a .s .t - 1) (omega arith) L (omega arith) (c .before .before .if1 .taken))
+    c .refuse .ensures ∙ refused (a .s) (o .before .pre .1 .0) (o .all-ones .ensures .0) T (a .s .t - 1) (omega arith) L (omega arith)
+    (c .before .before .if1 .taken))
     -- sub-i
     (λ c. search needs)
     -- mul-h
@@ -71,7 +72,8 @@ grant-spec =
     let a = o .before .args in
     let e = o .all-ones .result in
     let L = least-room e (e - 1) 1 (s .inv .2) (least-from (e - 1) 1 (a .s .v) (omega arith) (c .before .before .before .climb .ensures) (omega arith)) in
-    c .refuse2 .ensures ∙ refused (a .s) (o .before .pre .1 .0) (o .all-ones .ensures .0) (s .inv .0) (s .i - 1) (omega arith) L (omega arith) (c .before .before .if2 .taken))
+    c .refuse2 .ensures ∙ refused (a .s) (o .before .pre .1 .0) (o .all-ones .ensures .0) (s .inv .0) (s .i - 1) (omega arith) L (omega arith)
+    (c .before .before .if2 .taken))
     -- sub-i-2
     (λ c. search needs)
     -- mul-h-2
@@ -87,7 +89,8 @@ grant-spec =
     let a = o .before .args in
     let e = o .all-ones .result in
     let L = least-room e (e - 1) 1 (s .inv .2) (least-from (e - 1) 1 (a .s .v) (omega arith) (c .before .climb .ensures) (omega arith)) in
-    (stored (a .s) (o .before .pre .1 .0) (o .all-ones .ensures .0) (s .inv .0) (s .i - 1) (omega arith) L (omega arith), omega arith, omega (arith, L .above), c .if2 .left))
+    let T = stored (a .s) (o .before .pre .1 .0) (o .all-ones .ensures .0) (s .inv .0) (s .i - 1) (omega arith) L (omega arith) in
+    (T, omega arith, omega (arith, L .above), c .if2 .left))
     -- first-requires
     (λ c κs. search needs)
     -- add-need
@@ -107,7 +110,8 @@ grant-spec =
     let e = o .all-ones .result in
     let first = firstOf (a .s) in
     let L = least-room e e first (s .inv .2) (least-from e first (a .s .v) (omega arith) (c .before .before .before .climb2 .ensures) (omega arith)) in
-    c .refuse3 .ensures ∙ first-refused (a .s) (o .before .pre .1 .0) (o .all-ones .ensures .0) (s .inv .0) (s .i - 1) (omega arith) (omega arith) L (c .before .before .if3 .taken))
+    c .refuse3 .ensures ∙ first-refused (a .s) (o .before .pre .1 .0) (o .all-ones .ensures .0) (s .inv .0) (s .i - 1) (omega arith) (omega arith) L
+    (c .before .before .if3 .taken))
     -- element-write-h-3
     (λ c. search needs)
     -- returns-4

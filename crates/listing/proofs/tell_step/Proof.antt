@@ -1,7 +1,7 @@
 -- `listing::tell_step` meets its contract. Assumes nothing.
 use native.Mathlib.Omega.{arith}
 use borrow.Author.Needs.{needs}
-use Rattle.dump.proofs.Steps.{record-further}
+use Rattle.dump.proofs.Walking.{record-further}
 use Rattle.listing.proofs.Telling.{record-refusing, tells-record, tells-end, tells-stop}
 use Rattle.listing.proofs.tell_step.Statement.{statement}
 use Rattle.listing.proofs.tell_step.Tie as tie

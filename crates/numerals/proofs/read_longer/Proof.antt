@@ -5,7 +5,7 @@ use native.Mathlib.Nat.{add-assoc}
 use borrow.Author.Needs.{needs}
 use denote.Ref.{now}
 use lib.ListN.{length, getD}
-use Rattle.numerals.proofs.Laws.{Reading, reading-begin, reading-small, reading-cut, reading-zero, reading-last, reading-tenth, reading-next}
+use Rattle.numerals.proofs.Reading.{Reading, reading-begin, reading-small, reading-cut, reading-zero, reading-last, reading-tenth, reading-next}
 use Rattle.numerals.proofs.read_longer.Statement.{statement}
 use Rattle.numerals.proofs.read_longer.Tie as tie
 

@@ -1,5 +1,5 @@
 -- `text::put_refusal_line` meets its contract. Assumes nothing.
-use mathlib.Core.Path.{refl, _≡_}
+use mathlib.Core.Path.{refl}
 use mathlib.Core.List.{append-assoc}
 use native.Mathlib.Omega.{arith}
 use borrow.Author.Needs.{needs}

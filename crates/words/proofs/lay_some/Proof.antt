@@ -1,7 +1,7 @@
 -- `words::lay_some` meets its contract. Assumes nothing.
 use Rattle.words.specs.Marks.{restOf, topOf}
-use Rattle.words.proofs.Scattering.{Scattering, scattering-none, scattering-more, scattering-fits, scattered-word}
-use Rattle.words.proofs.Scattering.{ahead-some, ahead-none, label-below, skips, skip-some}
+use Rattle.words.proofs.Patterns.{Scattering, scattering-none, scattering-more, scattering-fits, scattered-word, ahead-some, ahead-none, label-below}
+use Rattle.words.proofs.Patterns.{skips, skip-some}
 use Prim.Native.Nat.{_-_, _<_}
 use mathlib.Core.Path.{refl, ap, _∙_}
 use native.Mathlib.Omega.{arith}
