@@ -1,4 +1,4 @@
--- Patterns place by place and part by part, and what the count of the next generation decides.
+-- Digits read part by part, the pattern of a number whose k is known, and what the count of the next generation decides.
 use Prim.Native.Nat.{ℕ, zero, suc, _+_, _*_, _-_, _^_, _/_, _%_, _≤_, _<_}
 use mathlib.Core.Path.{_≡_, refl}
 use mathlib.Core.List.{List, _∷_}
@@ -12,6 +12,7 @@ use Rattle.code.specs.Field.{told, pattern}
 use Rattle.code.proofs.Count.{fewer-grows}
 use Rattle.code.proofs.Deal.{laid-is, deal-back}
 
+-- the number that digits make when they are read on from one that was read before them
 abbrev pub plainFrom : ℕ → List ℕ → ℕ → ℕ
 plainFrom e xs x = x * e ^ length xs + plain e xs
 

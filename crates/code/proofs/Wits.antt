@@ -1,4 +1,4 @@
--- A wit of bytes: its place, a byte stored, and bytes told by their wits. Only the laws of `place` look at the order.
+-- A wit of bytes: its place, and bytes told by their wits. Only the laws of `place` look at the order.
 use mathlib.Core.Path.{_≡_, _∙_}
 use mathlib.Core.List.{List}
 use Prim.Native.Nat.{ℕ, zero, suc, _+_, _*_, _^_, _/_, _%_, _≤_, _<_}

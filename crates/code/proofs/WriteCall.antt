@@ -82,7 +82,7 @@ module _ (s : Shape) (ok : layoutRefusal s 256 ≡ []) where
   abbrev pub patternAt : ℕ → ℕ → List ℕ
   patternAt n x = pattern full (base full n) (fewest (firstOf s) n) (getD (countsOf s) n 0) (getD (countsOf s) (suc n) 0) x
 
-  -- there is room for every number of the range, and its pattern has values below 2^m
+  -- there is room for every number of the range
   pub room-for : (n x : ℕ) → n < s .t → x < s .v → x < room full (base full n) (fewest (firstOf s) n) (getD (countsOf s) n 0) (getD (countsOf s) (suc n) 0)
   room-for n x l h =
       let room = holds-room full (firstOf s) (countsOf s) (rangesOf s) n (is-layout s ok .holds) (omega (arith, counts-length s ok)) in
