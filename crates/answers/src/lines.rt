@@ -3,9 +3,9 @@ use crate::output;
 use crate::protocol;
 use crate::protocol::Broken;
 use code::Shape;
-use dump::Exported;
 use field::Reading;
 use field::Writing;
+use storing::Made;
 ghost use Prim.Native.Nat.{_+_, _*_, _≤_};
 ghost use lib.ListN.{length};
 ghost use Rattle.dump.specs.Answers.{rowLength};
@@ -76,13 +76,13 @@ pub fn put_write(out: &mut [u8], at: usize, s: Shape, number: u64, cells: &mut [
     output::put_hex(out, place, cells)
 }
 
-fn put_exported(out: &mut [u8], at: usize, answer: Exported) -> usize
+fn put_exported(out: &mut [u8], at: usize, answer: Made) -> usize
     requires { ⌜ Fits at (now out) ⌝ }
     ensures { λ r. ⌜ Fits r (now (out .exit)) ⌝ }
 {
     match answer {
-        Exported::Stored(count) => output::put_numbers(out, at, b"export", &[0, count as u64]),
-        Exported::Refused(refusal) => output::put_numbers(out, at, b"export", &[refusal]),
+        Made::Stored(count) => output::put_numbers(out, at, b"export", &[0, count as u64]),
+        Made::Refused(refusal) => output::put_numbers(out, at, b"export", &[refusal]),
     }
 }
 

@@ -17,15 +17,16 @@ use Rattle.code.proofs.Tests.{both-true}
 use Rattle.code.proofs.LayoutCall.{outside-within, passed, refusal-some}
 use Rattle.code.proofs.Demand.{refused-export-keeps}
 use Rattle.code.proofs.Records.{numerals-few, record-length, placed, record-stands}
-use Rattle.dump.specs.Answers.{dumpMost, exportedOf}
-use Rattle.dump.specs.declared.Exported.the-variants.{Stored, Refused}
+use Rattle.dump.specs.Answers.{dumpMost}
+use Rattle.storing.specs.Answers.{madeOf}
+use Rattle.storing.specs.declared.Made.the-variants.{Stored, Refused}
 
 module _ (serial m t v : ℕ) (cells out after : List ℕ) where
   abbrev reply : List ℕ
   reply = exportReply serial m t v cells out
 
   -- A refused export leaves the output as it was.
-  pub refused-keeps : (k : ℕ) → exportedOf (Refused k) ≡ reply → after ≡ exportLeaves serial m t v cells out → after ≡ out
+  pub refused-keeps : (k : ℕ) → madeOf (Refused k) ≡ reply → after ≡ exportLeaves serial m t v cells out → after ≡ out
   unfolding exportReply answer
   refused-keeps k refused left = left ∙ go (exportRefusal serial m t v cells out) refl refused
     where
@@ -38,7 +39,7 @@ module _ (serial m t v : ℕ) (cells out after : List ℕ) where
   unfolding exportRefusal
   export-some k carried q = refusal-some _ (omega arith, (omega arith, (omega arith, (omega arith, (omega arith, tt))))) k carried q
 
-  module _ (n : ℕ) (stored : exportedOf (Stored n) ≡ reply) (left : after ≡ exportLeaves serial m t v cells out) where
+  module _ (n : ℕ) (stored : madeOf (Stored n) ≡ reply) (left : after ≡ exportLeaves serial m t v cells out) where
     accepted : (exportRefusal serial m t v cells out ≡ []) × (n ≡ length (recordOf serial m t v cells))
     unfolding exportReply answer
     accepted = go (exportRefusal serial m t v cells out) refl stored

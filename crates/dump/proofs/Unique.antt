@@ -6,12 +6,13 @@ use native.Mathlib.Omega.{arith}
 use lib.ListN.{length}
 use Rattle.code.specs.Dump.{recordNumbers, stepReply, exportReply, exportLeaves, walkReply, walkLeaves}
 use Rattle.code.proofs.Tests.{clash}
+use Rattle.storing.specs.Answers.{madeOf}
+use Rattle.storing.specs.declared.Made.{Made}
+use Rattle.storing.proofs.Unique.{made-alike}
 use Rattle.code.proofs.Steps.{numbers-same}
 use Rattle.field.specs.Answers.{readingOf}
 use Rattle.field.proofs.Unique.{same-reading}
-use Rattle.dump.specs.Answers.{exportedOf, haltOf, stepOf, walkedOf}
-use Rattle.dump.specs.declared.Exported.{Exported}
-use Rattle.dump.specs.declared.Exported.the-variants.{Stored, Refused}
+use Rattle.dump.specs.Answers.{haltOf, stepOf, walkedOf}
 use Rattle.dump.specs.declared.Halt.{Halt}
 use Rattle.dump.specs.declared.Halt.the-variants.{Malformed, Oversize}
 use Rattle.dump.specs.declared.Step.{Step}
@@ -49,20 +50,10 @@ same-step (Stop h) (Stop h′) q =
 pub unique-step : (bytes : List ℕ) (at : ℕ) (r r′ : Step) → stepOf r ≡ stepReply bytes at → stepOf r′ ≡ stepReply bytes at → r ≡ r′
 unique-step bytes at r r′ p q = same-step r r′ (p ∙ sym q)
 
-same-exported : (r r′ : Exported) → exportedOf r ≡ exportedOf r′ → r ≡ r′
-same-exported (Stored n) (Stored n′) q =
-    let a : n ≡ n′ = cc in
-    rw a
-same-exported (Stored n) (Refused k) q = absurd (omega (arith, ap length q))
-same-exported (Refused k) (Stored n) q = absurd (omega (arith, ap length q))
-same-exported (Refused k) (Refused k′) q =
-    let a : k ≡ k′ = cc in
-    rw a
-
-pub unique-export : (serial m t v : ℕ) (cells out after after′ : List ℕ) (r r′ : Exported) →
-    exportedOf r ≡ exportReply serial m t v cells out → after ≡ exportLeaves serial m t v cells out →
-    exportedOf r′ ≡ exportReply serial m t v cells out → after′ ≡ exportLeaves serial m t v cells out → (r ≡ r′) × (after ≡ after′)
-unique-export serial m t v cells out after after′ r r′ p a p′ a′ = (same-exported r r′ (p ∙ sym p′), a ∙ sym a′)
+pub unique-export : (serial m t v : ℕ) (cells out after after′ : List ℕ) (r r′ : Made) →
+    madeOf r ≡ exportReply serial m t v cells out → after ≡ exportLeaves serial m t v cells out →
+    madeOf r′ ≡ exportReply serial m t v cells out → after′ ≡ exportLeaves serial m t v cells out → (r ≡ r′) × (after ≡ after′)
+unique-export serial m t v cells out = made-alike (exportReply serial m t v cells out) (exportLeaves serial m t v cells out)
 
 pub unique-walk : (bytes : List ℕ) (at : ℕ) (rows after after′ : List ℕ) (r r′ : Walked) →
     walkedOf r ≡ walkReply bytes at rows → after ≡ walkLeaves bytes at rows →

@@ -5,8 +5,6 @@ use lib.ListN.{getD}
 use Rattle.code.specs.Dump as Code
 use Rattle.code.specs.Dump.{recordNumbers}
 use Rattle.field.specs.Answers.{readingOf}
-use Rattle.dump.specs.declared.Exported.{Exported}
-use Rattle.dump.specs.declared.Exported.the-variants.{Stored, Refused}
 use Rattle.dump.specs.declared.Halt.{Halt}
 use Rattle.dump.specs.declared.Halt.the-variants.{Malformed, Oversize}
 use Rattle.dump.specs.declared.Located.{Located}
@@ -22,10 +20,6 @@ dumpMost = 65536
 -- the numbers of a row
 abbrev pub rowLength : ℕ
 rowLength = 10
-
-abbrev pub exportedOf : Exported → List ℕ
-exportedOf (Stored n) = 0 ∷ n ∷ []
-exportedOf (Refused k) = k ∷ []
 
 -- "A refusal carries its number only (7 also the offset of the record's first byte)"
 abbrev pub haltNumber : Halt → ℕ

@@ -4,6 +4,7 @@ use code::Shape;
 use field::Reading;
 use layout::Plan;
 use records::Head;
+use storing::Made;
 ghost use mathlib.Core.Path.{_≡_};
 ghost use mathlib.Core.List.{[], _∷_, _++_};
 ghost use Prim.Native.Nat.{_+_, _≤_};
@@ -11,9 +12,10 @@ ghost use lib.ListN.{length, replicate};
 ghost use Rattle.code.specs.Calls.{filled};
 ghost use Rattle.code.specs.Dump.{exportReply, exportLeaves, step, taken, stepValues, stepReply, recordNumbers, walkReply, walkLeaves};
 ghost use Rattle.storing.specs.Put.{Put};
+ghost use Rattle.storing.specs.Answers.{madeOf};
 ghost use Rattle.layout.specs.Plan.{Planned};
 ghost use Rattle.field.specs.Answers.{readingOf};
-ghost use Rattle.dump.specs.Answers.{rowLength, exportedOf, locatedOf, stepOf, walkedOf, haltedBy};
+ghost use Rattle.dump.specs.Answers.{rowLength, locatedOf, stepOf, walkedOf, haltedBy};
 
 // The most bytes of a dump.
 pub const DUMP_MOST: usize = 65536;
@@ -21,33 +23,27 @@ pub const DUMP_MOST: usize = 65536;
 // The least serial that is refused.
 const SERIAL_END: u64 = 0x8000_0000_0000_0000;
 
-pub enum Exported {
-    // The record's length.
-    Stored(usize),
-    Refused(u64),
-}
-
 // Stores the record of a field at the front of `out`.
-pub fn export(serial: u64, m: u64, t: u64, v: u64, cells: &[u8], out: &mut [u8]) -> Exported
-    ensures { λ r. ⌜ exportedOf r ≡ exportReply serial m t v (now (cells .entry)) (now (out .entry)) ⌝ }
+pub fn export(serial: u64, m: u64, t: u64, v: u64, cells: &[u8], out: &mut [u8]) -> Made
+    ensures { λ r. ⌜ madeOf r ≡ exportReply serial m t v (now (cells .entry)) (now (out .entry)) ⌝ }
     ensures { λ r. ⌜ now (out .exit) ≡ exportLeaves serial m t v (now (cells .entry)) (now (out .entry)) ⌝ }
 {
     if SERIAL_END <= serial {
-        return Exported::Refused(10);
+        return Made::Refused(10);
     }
     let s = Shape { m, t, v };
     let mut h = [0u64; 16];
     let refusal = layout::lay_into(&mut h, s, 256);
     if refusal != 0 {
-        return Exported::Refused(refusal);
+        return Made::Refused(refusal);
     }
     if !cells::is_sound(cells, layout::order(s), m as usize, h[0] as usize) {
-        return Exported::Refused(3);
+        return Made::Refused(3);
     }
     if out.len() < records::record_length(serial, m, t, v, cells.len()) {
-        return Exported::Refused(9);
+        return Made::Refused(9);
     }
-    Exported::Stored(records::put_record(out, serial, m, t, v, cells))
+    Made::Stored(records::put_record(out, serial, m, t, v, cells))
 }
 
 // Why a walk stops before the end: a malformed record, whose first byte stands at the offset, or more bytes than a dump may have.

@@ -8,10 +8,10 @@ use lib.ListN.{getD, take, drop}
 use Rattle.code.specs.declared.Shape.{Shape}
 use Rattle.code.specs.Calls.{filled, readReply, writeReply, writeLeaves}
 use Rattle.code.specs.Dump.{exportReply, exportLeaves, stepReply}
-use Rattle.gorvlime.specs.Fields.{readingFields, writingFields, exportFields, stepFields, foundFields}
+use Rattle.gorvlime.specs.Fields.{readingFields, writingFields, madeFields, stepFields, foundFields}
 use Rattle.gorvlime.specs.declared.c.ReadAnswer.{ReadAnswer}
 use Rattle.gorvlime.specs.declared.c.WriteAnswer.{WriteAnswer}
-use Rattle.gorvlime.specs.declared.c.ExportAnswer.{ExportAnswer}
+use Rattle.gorvlime.specs.declared.c.MadeAnswer.{MadeAnswer}
 use Rattle.gorvlime.specs.declared.c.StepAnswer.{StepAnswer}
 
 -- the struct whose fields are given: an answer is the struct of its own fields
@@ -21,8 +21,8 @@ readingWith xs = record { refusal = getD xs 0 0; generation = getD xs 1 0; numbe
 abbrev writingWith : List ℕ → WriteAnswer
 writingWith xs = record { refusal = getD xs 0 0; generation = getD xs 1 0; turned = getD xs 2 0 }
 
-abbrev exportWith : List ℕ → ExportAnswer
-exportWith xs = record { refusal = getD xs 0 0; length = getD xs 1 0 }
+abbrev madeWith : List ℕ → MadeAnswer
+madeWith xs = record { refusal = getD xs 0 0; length = getD xs 1 0 }
 
 abbrev stepWith : List ℕ → StepAnswer
 stepWith xs =
@@ -52,10 +52,14 @@ pub unique-write : (s : Shape) (x : ℕ) (cells after after′ : List ℕ) (r r�
     writingFields r′ ≡ filled 3 (writeReply s x cells) → after′ ≡ writeLeaves s x cells → (r ≡ r′) × (after ≡ after′)
 unique-write s x cells after after′ r r′ p l p′ l′ = (ap writingWith (p ∙ sym p′), l ∙ sym l′)
 
-pub unique-export : (serial m t v : ℕ) (cells out after after′ : List ℕ) (r r′ : ExportAnswer) →
-    exportFields r ≡ filled 2 (exportReply serial m t v cells out) → after ≡ exportLeaves serial m t v cells out →
-    exportFields r′ ≡ filled 2 (exportReply serial m t v cells out) → after′ ≡ exportLeaves serial m t v cells out → (r ≡ r′) × (after ≡ after′)
-unique-export serial m t v cells out after after′ r r′ p l p′ l′ = (ap exportWith (p ∙ sym p′), l ∙ sym l′)
+made-alike : (reply leaves after after′ : List ℕ) (r r′ : MadeAnswer) → madeFields r ≡ reply → after ≡ leaves → madeFields r′ ≡ reply → after′ ≡ leaves →
+    (r ≡ r′) × (after ≡ after′)
+made-alike reply leaves after after′ r r′ p l p′ l′ = (ap madeWith (p ∙ sym p′), l ∙ sym l′)
+
+pub unique-export : (serial m t v : ℕ) (cells out after after′ : List ℕ) (r r′ : MadeAnswer) →
+    madeFields r ≡ filled 2 (exportReply serial m t v cells out) → after ≡ exportLeaves serial m t v cells out →
+    madeFields r′ ≡ filled 2 (exportReply serial m t v cells out) → after′ ≡ exportLeaves serial m t v cells out → (r ≡ r′) × (after ≡ after′)
+unique-export serial m t v cells out = made-alike (filled 2 (exportReply serial m t v cells out)) (exportLeaves serial m t v cells out)
 
 pub unique-step : (bytes : List ℕ) (at : ℕ) (r r′ : StepAnswer) →
     stepFields r ≡ foundFields (stepReply bytes at) → stepFields r′ ≡ foundFields (stepReply bytes at) → r ≡ r′

@@ -7,7 +7,7 @@ use lib.ListN.{length, getD, take, drop}
 use Rattle.code.specs.Calls.{filled}
 use Rattle.gorvlime.specs.declared.c.ReadAnswer.{ReadAnswer}
 use Rattle.gorvlime.specs.declared.c.WriteAnswer.{WriteAnswer}
-use Rattle.gorvlime.specs.declared.c.ExportAnswer.{ExportAnswer}
+use Rattle.gorvlime.specs.declared.c.MadeAnswer.{MadeAnswer}
 use Rattle.gorvlime.specs.declared.c.StepAnswer.{StepAnswer}
 
 abbrev pub readingFields : ReadAnswer → List ℕ
@@ -16,8 +16,8 @@ readingFields r = r .refusal ∷ r .generation ∷ r .number ∷ r .left ∷ []
 abbrev pub writingFields : WriteAnswer → List ℕ
 writingFields r = r .refusal ∷ r .generation ∷ r .turned ∷ []
 
-abbrev pub exportFields : ExportAnswer → List ℕ
-exportFields r = r .refusal ∷ r .length ∷ []
+abbrev pub madeFields : MadeAnswer → List ℕ
+madeFields r = r .refusal ∷ r .length ∷ []
 
 abbrev pub stepFields : StepAnswer → List ℕ
 stepFields r =

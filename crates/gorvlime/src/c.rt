@@ -7,8 +7,9 @@ ghost use Rattle.field.specs.Answers.{readingOf, writingOf};
 ghost use Prim.Native.Nat.{_^_, _<_};
 ghost use lib.ListN.{replicate};
 ghost use Rattle.code.specs.Dump.{exportReply, exportLeaves, stepReply, walkReply, walkLeaves};
-ghost use Rattle.dump.specs.Answers.{exportedOf, haltOf, stepOf, walkedOf};
-ghost use Rattle.gorvlime.specs.Fields.{readingFields, writingFields, exportFields, stepFields, cellsEnd, foundFields};
+ghost use Rattle.dump.specs.Answers.{haltOf, stepOf, walkedOf};
+ghost use Rattle.storing.specs.Answers.{madeOf};
+ghost use Rattle.gorvlime.specs.Fields.{readingFields, writingFields, madeFields, stepFields, cellsEnd, foundFields};
 
 #[repr(C)]
 pub struct ReadAnswer {
@@ -88,20 +89,20 @@ pub extern "C" fn gorvlime_write(s: Shape, cells: &mut [u8], number: u64) -> Wri
 }
 
 #[repr(C)]
-pub struct ExportAnswer {
+pub struct MadeAnswer {
     pub refusal: u64,
     pub length: u64,
 }
 
-fn flat_export(a: dump::Exported) -> ExportAnswer
-    ensures { λ r. ⌜ exportFields r ≡ filled 2 (exportedOf a) ⌝ }
+fn flat_made(a: storing::Made) -> MadeAnswer
+    ensures { λ r. ⌜ madeFields r ≡ filled 2 (madeOf a) ⌝ }
 {
     match a {
-        dump::Exported::Stored(n) => ExportAnswer {
+        storing::Made::Stored(n) => MadeAnswer {
             refusal: 0,
             length: n as u64,
         },
-        dump::Exported::Refused(k) => ExportAnswer {
+        storing::Made::Refused(k) => MadeAnswer {
             refusal: k,
             length: 0,
         },
@@ -116,11 +117,11 @@ pub extern "C" fn gorvlime_export(
     v: u64,
     cells: &[u8],
     out: &mut [u8],
-) -> ExportAnswer
-    ensures { λ r. ⌜ exportFields r ≡ filled 2 (exportReply serial m t v (now (cells .entry)) (now (out .entry))) ⌝ }
+) -> MadeAnswer
+    ensures { λ r. ⌜ madeFields r ≡ filled 2 (exportReply serial m t v (now (cells .entry)) (now (out .entry))) ⌝ }
     ensures { λ r. ⌜ now (out .exit) ≡ exportLeaves serial m t v (now (cells .entry)) (now (out .entry)) ⌝ }
 {
-    flat_export(crate::export(serial, m, t, v, cells, out))
+    flat_made(crate::export(serial, m, t, v, cells, out))
 }
 
 #[repr(C)]

@@ -2,19 +2,20 @@
 pub mod c;
 
 use code::Shape;
-use dump::Exported;
 use dump::Step;
 use dump::Walked;
 use field::Reading;
 use field::Writing;
 use layout::Layout;
+use storing::Made;
 ghost use mathlib.Core.Path.{_≡_};
 ghost use mathlib.Core.List.{_∷_};
 ghost use lib.ListN.{take, drop};
 ghost use Rattle.code.specs.Calls.{filled, layoutFields, layoutReply, readReply, writeReply, writeLeaves};
 ghost use Rattle.code.specs.Dump.{exportReply, exportLeaves, stepReply, walkReply, walkLeaves};
 ghost use Rattle.field.specs.Answers.{readingOf, writingOf};
-ghost use Rattle.dump.specs.Answers.{exportedOf, stepOf, walkedOf};
+ghost use Rattle.dump.specs.Answers.{stepOf, walkedOf};
+ghost use Rattle.storing.specs.Answers.{madeOf};
 
 // The counts of a field in g groups.
 pub fn lay_out(s: Shape, g: u64) -> Layout
@@ -39,8 +40,8 @@ pub fn write(s: Shape, cells: &mut [u8], number: u64) -> Writing
 }
 
 // The record of a field, at the front of the output.
-pub fn export(serial: u64, m: u64, t: u64, v: u64, cells: &[u8], out: &mut [u8]) -> Exported
-    ensures { λ r. ⌜ exportedOf r ≡ exportReply serial m t v (now (cells .entry)) (now (out .entry)) ⌝ }
+pub fn export(serial: u64, m: u64, t: u64, v: u64, cells: &[u8], out: &mut [u8]) -> Made
+    ensures { λ r. ⌜ madeOf r ≡ exportReply serial m t v (now (cells .entry)) (now (out .entry)) ⌝ }
     ensures { λ r. ⌜ now (out .exit) ≡ exportLeaves serial m t v (now (cells .entry)) (now (out .entry)) ⌝ }
 {
     dump::export(serial, m, t, v, cells, out)

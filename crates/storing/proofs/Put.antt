@@ -53,5 +53,11 @@ storing-last {c} {at} {end} ys y s p q =
     let e : end ≡ at + length ys = omega (arith, s .ends, length-append ys (y ∷ [])) in
     rw (p, q) record { same = length-set c end y ∙ s .same; due = rw (e, ← sets-last c at ys y) (s .due); ends = e }
 
+-- a part of what is left is stored
+pub storing-put : {b c d all ys zs : List ℕ} {from at n end : ℕ} → Storing b from all c at (ys ++ zs) end → Put c d at ys n → Storing b from all d n zs end
+storing-put {b} {c} {d} {all} {ys} {zs} {from} {at} {n} {end} s p =
+    let both = put-then p record { stored = refl; ends = refl } in
+    record { same = put-length p ∙ s .same; due = both .stored ∙ s .due; ends = omega (arith, s .ends, p .ends, length-append ys zs) }
+
 pub storing-end : {b c all : List ℕ} {from at : ℕ} → Storing b from all c at [] (from + length all) → Put b c from all at
 storing-end s = record { stored = s .due; ends = omega (arith, s .ends) }

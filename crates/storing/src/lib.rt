@@ -4,6 +4,13 @@ ghost use Prim.Native.Nat.{_+_, _<_, _≤_};
 ghost use lib.ListN.{length};
 ghost use Rattle.storing.specs.Put.{Put};
 
+// What a call that stores into a lent output comes to.
+pub enum Made {
+    // The length of what is stored.
+    Stored(usize),
+    Refused(u64),
+}
+
 pub fn put_byte(out: &mut [u8], at: usize, byte: u8) -> usize
     requires { ⌜ at < length (now out) ⌝ }
     ensures { λ r. ⌜ Put (now (out .entry)) (now (out .exit)) at (byte ∷ []) r ⌝ }

@@ -12,4 +12,4 @@ gorvlime-export-spec =
     (λ c κs. search needs)
     (λ c κs. search needs)
     (λ c. search needs)
-    (λ c. let w = c .before .before .before .export .ensures in (c .flat-export .ensures ∙ ap (filled 2) (w .0), w .1)))
+    (λ c. let w = c .before .before .before .export .ensures in (c .flat-made .ensures ∙ ap (filled 2) (w .0), w .1)))
