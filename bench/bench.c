@@ -1,6 +1,6 @@
 /*
- * What the archive costs beside plain C: all calls on the drives' field, m 2, t 10, v 2^56, and reads and writes on the
- * largest fields and on a small one.
+ * What the archive costs beside plain C: all calls on the drives' field, m 2, t 10, v 2^56, reads and writes on the largest
+ * fields and on a small one, and a dump of full size to HEX and back.
  *
  *     bench list               the cases, a line for each: calls in one run of it, and its name
  *     bench same               compares the answers of both in every case
@@ -22,6 +22,7 @@ enum {
     MOST_GENERATIONS = 16, MOST_CELLS = 64, MOST_RECORD = 85, CHAINS = 8,
     /* 23 of the records have a serial of 3 bytes, and the others one of 2, which fills the dump to its last byte. */
     DUMP = 65536, RECORDS = 1337, LONG_SERIALS = 23, ROWS = (RECORDS + 1) * GORVLIME_ROW,
+    TEXT = 180236,   /* characters of 65,536 bytes in HEX */
 };
 
 struct calls {
@@ -30,10 +31,16 @@ struct calls {
     struct gorvlime_writing (*write)(struct gorvlime_shape, uint8_t *, size_t, uint64_t);
     struct gorvlime_exported (*export)(uint64_t, uint64_t, uint64_t, uint64_t, const uint8_t *, size_t, uint8_t *, size_t);
     struct gorvlime_walked (*walk)(const uint8_t *, size_t, size_t, uint64_t *, size_t);
+    struct gorvlime_exported (*hex_export)(const uint8_t *, size_t, uint8_t *, size_t);
+    struct gorvlime_exported (*hex_import)(const uint8_t *, size_t, uint8_t *, size_t);
 };
 
-static const struct calls plain = {plain_layout, plain_read, plain_write, plain_export, plain_walk};
-static const struct calls archive = {gorvlime_layout, gorvlime_read, gorvlime_write, gorvlime_export, gorvlime_walk};
+static const struct calls plain = {
+    plain_layout, plain_read, plain_write, plain_export, plain_walk, plain_hex_export, plain_hex_import,
+};
+static const struct calls archive = {
+    gorvlime_layout, gorvlime_read, gorvlime_write, gorvlime_export, gorvlime_walk, gorvlime_hex_export, gorvlime_hex_import,
+};
 
 /* A field, and chains of writes from blank cells to its last generation. */
 struct sample {
@@ -51,6 +58,8 @@ static struct sample small = {.shape = {.m = 2, .t = 3, .v = 4}, .cells = 1};
 
 static uint8_t dump[DUMP];   /* of the drives' fields */
 static uint64_t rows[ROWS];
+static uint8_t text[TEXT];   /* the dump in HEX */
+static uint8_t out[TEXT];    /* of a HEX call */
 static uint64_t answers;     /* all answers of a run, folded into one number */
 
 static void fold(uint64_t answer)
@@ -99,6 +108,20 @@ static void run_walk(const struct calls *c, const struct sample *s, unsigned gen
     fold(rows[8]);
 }
 
+static void run_hex_export(const struct calls *c, const struct sample *s, unsigned generation)
+{
+    (void)s;
+    (void)generation;
+    fold(c->hex_export(dump, DUMP, out, TEXT).length);
+}
+
+static void run_hex_import(const struct calls *c, const struct sample *s, unsigned generation)
+{
+    (void)s;
+    (void)generation;
+    fold(c->hex_import(text, TEXT, out, DUMP).length);
+}
+
 static const struct {
     unsigned calls, times;   /* calls in a run; runs that are timed together */
     void (*run)(const struct calls *, const struct sample *, unsigned);
@@ -113,6 +136,8 @@ static const struct {
     {CHAINS, 1, run_writes, &drives, 10, "ten writes"},
     {CHAINS, 20, run_export, &drives, 6, "export"},
     {1, 1, run_walk, &drives, 1, "walk of 1,337 records"},
+    {1, 1, run_hex_export, &drives, 1, "HEX export of 65,536 bytes"},
+    {1, 1, run_hex_import, &drives, 1, "HEX import of 65,536 bytes"},
     {CHAINS, 10, run_reads, &widest_2, 8, "m 2, t 16, v 2^56: read at generation 8"},
     {CHAINS, 1, run_writes, &widest_2, 16, "m 2, t 16, v 2^56: 16 writes"},
     {CHAINS, 10, run_reads, &widest_3, 8, "m 3, t 16, v 2^56: read at generation 8"},
@@ -170,7 +195,7 @@ static void make_dump(void)
         uint64_t serial = i < LONG_SERIALS ? 20000 + i : 128 + i;
         length += put_record(dump + length, serial, record + 1, between, s->written[i % CHAINS][i % f.t]);
     }
-    if (length != DUMP)
+    if (length != DUMP || plain_hex_export(dump, DUMP, text, TEXT).length != TEXT)
         abort();
 }
 
@@ -179,7 +204,7 @@ static void prepare(unsigned i)
 {
     if (cases[i].sample->numbers[0][0] == 0)
         write_chains(cases[i].sample);
-    if (cases[i].run == run_walk)
+    if (cases[i].calls == 1)
         make_dump();
 }
 
@@ -198,9 +223,12 @@ static uint64_t answers_of(unsigned i, const struct calls *c)
 {
     answers = 0;
     memset(rows, 0, sizeof rows);
+    memset(out, 0, sizeof out);
     run_case(i, c);
     for (unsigned j = 0; j < ROWS; j++)
         fold(rows[j]);
+    for (unsigned j = 0; j < TEXT; j++)
+        fold(out[j]);
     return answers;
 }
 

@@ -17,4 +17,8 @@ struct gorvlime_found plain_step(const uint8_t *dump, size_t dump_count, size_t 
 
 struct gorvlime_walked plain_walk(const uint8_t *dump, size_t dump_count, size_t at, uint64_t *rows, size_t rows_count);
 
+struct gorvlime_exported plain_hex_export(const uint8_t *bytes, size_t bytes_count, uint8_t *out, size_t out_count);
+
+struct gorvlime_exported plain_hex_import(const uint8_t *text, size_t text_count, uint8_t *out, size_t out_count);
+
 #endif

@@ -79,7 +79,7 @@ struct gorvlime_found plain_step(const uint8_t *dump, size_t dump_count, size_t 
     struct record r;
     struct field f;
     if (dump_count > MOST_DUMP) {
-        found.refusal = GORVLIME_DUMP;
+        found.refusal = GORVLIME_TOO_LONG;
         return found;
     }
     if (at >= dump_count)
@@ -118,7 +118,7 @@ struct gorvlime_walked plain_walk(const uint8_t *dump, size_t dump_count, size_t
     struct field f = {.refusal = GORVLIME_BOUNDS};
     struct record r;
     if (dump_count > MOST_DUMP)
-        return (struct gorvlime_walked){.refusal = GORVLIME_DUMP};
+        return (struct gorvlime_walked){.refusal = GORVLIME_TOO_LONG};
     for (; rows_count >= GORVLIME_ROW; rows += GORVLIME_ROW, rows_count -= GORVLIME_ROW) {
         if (walked.next >= dump_count) {
             walked.ended = 1;

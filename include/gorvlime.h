@@ -11,6 +11,8 @@
  * Ask gorvlime_layout once how large the field is, keep that many bytes of cells, all zeros at first, and hand them to
  * gorvlime_write and gorvlime_read. gorvlime_export makes a record of a field, records one after the other are a dump, and
  * gorvlime_step and gorvlime_walk list a dump. examples/board.c shows all of the board's side on one page.
+ * gorvlime_hex_export and gorvlime_hex_import turn bytes into Intel HEX and back, for the bench that programs new boards:
+ * examples/bench.c.
  *
  * For every call:
  * - `refusal` is 0 when the call was accepted. When it is not, all other numbers of the answer are 0 and nothing was stored
@@ -33,7 +35,10 @@
 extern "C" {
 #endif
 
-/* Why a call was refused. The tests are made in the order of this list, and the first that holds is the answer. */
+/*
+ * Why a call was refused. The tests are made in the order of this list, and the first that holds is the answer. A HEX text
+ * is tested line by line: 23, 20, 21, 22, 24 at one line, the same at the next, and 9 when all lines have passed.
+ */
 enum gorvlime_refusal {
     GORVLIME_ACCEPTED = 0,      /* from                  when                                               */
     GORVLIME_SERIAL = 10,       /* export                the serial is above 2^63 - 1                       */
@@ -43,9 +48,16 @@ enum gorvlime_refusal {
     GORVLIME_NUMBER = 6,        /* write                 the number is v or more                            */
     GORVLIME_NO_READING = 4,    /* read, write           the cells have no reading: no writes leave them so */
     GORVLIME_SPENT = 5,         /* write                 all t generations are written                      */
-    GORVLIME_OUTPUT = 9,        /* export                the record does not fit into the output            */
-    GORVLIME_DUMP = 8,          /* step, walk            the dump has more than 65,536 bytes                */
-    GORVLIME_MALFORMED = 7      /* step, walk            no whole record stands at the offset               */
+    GORVLIME_TOO_LONG = 8,      /* step, walk            the dump has more than 65,536 bytes                */
+                                /* HEX export            more than 65,536 bytes                             */
+    GORVLIME_MALFORMED = 7,     /* step, walk            no whole record stands at the offset               */
+    GORVLIME_NO_END = 23,       /* HEX import            the text is over and no end line was in it         */
+    GORVLIME_LINE = 20,         /* HEX import            no line of the right shape, or a type 01 with data */
+                                /*                       or an address                                      */
+    GORVLIME_SUM = 21,          /* HEX import            the sum of the line is wrong                       */
+    GORVLIME_ADDRESS = 22,      /* HEX import            data with a gap, an overlap or past address FFFF   */
+    GORVLIME_TYPE = 24,         /* HEX import            a type but 00 and 01, or text behind the end line  */
+    GORVLIME_OUTPUT = 9         /* export, HEX calls     what is to be stored does not fit into the output  */
 };
 
 /*
@@ -156,6 +168,32 @@ struct gorvlime_found gorvlime_step(const uint8_t *dump, size_t dump_count, size
 struct gorvlime_walked { uint64_t refusal, offset, rows, next, ended; };
 
 struct gorvlime_walked gorvlime_walk(const uint8_t *dump, size_t dump_count, size_t at, uint64_t *rows, size_t rows_count);
+
+/*
+ * Bytes as an Intel HEX text.
+ *
+ * Takes at most 65,536 bytes, of cells or any others, and an output. Stores the text at the front of the output, leaves the
+ * bytes behind it as they are, and answers the text's length: n bytes make 12 * ((n + 15) / 16) + 2 * n + 12 characters, at
+ * most 180,236, and no 0 behind them.
+ * The text is a data line for each 16 bytes, the last one for what is left, at addresses from 0, and the end line :00000001FF.
+ * Its digits are upper case and each line ends in a line feed.
+ * Refusals: 8, 9.
+ */
+struct gorvlime_exported gorvlime_hex_export(const uint8_t *bytes, size_t bytes_count, uint8_t *out, size_t out_count);
+
+/*
+ * The bytes of an Intel HEX text.
+ *
+ * Takes a text of any length and an output. Stores the bytes at the front of the output, leaves what is behind them as it is,
+ * and answers how many they are: at most 65,536, and fewer than text_count / 2.
+ * A line is a colon, the count of its data bytes (0 to 255), an address, a type, the data and a sum, in hex digits of either
+ * case: four for the address, two for each other byte. With the sum, all bytes of the line add up to 0 modulo 256. Each line
+ * ends in a line feed, with or without a carriage return before it, and so does the last. Data lines are of type 00, the data
+ * begins at address 0 and runs on without a gap to FFFF at most; a line of no data may have any address. The end line is
+ * :00000001FF, and nothing is behind it.
+ * Refusals: at each line 23 (there is none), 20, 21, 22, 24; behind the end line 24; then 9.
+ */
+struct gorvlime_exported gorvlime_hex_import(const uint8_t *text, size_t text_count, uint8_t *out, size_t out_count);
 
 #ifdef __cplusplus
 }
