@@ -183,7 +183,10 @@ static size_t put_record(uint8_t *out, uint64_t serial, const uint8_t *parameter
     return at + length + drives.cells;
 }
 
-/* The records differ in serial and cells only; what stands between comes from an exported one with a serial of one byte. */
+/*
+ * The dump and its text. The records differ in serial and cells only; what stands between comes from an exported one with a
+ * serial of one byte.
+ */
 static void make_dump(void)
 {
     uint8_t record[MOST_RECORD];
@@ -204,7 +207,7 @@ static void prepare(unsigned i)
 {
     if (cases[i].sample->numbers[0][0] == 0)
         write_chains(cases[i].sample);
-    if (cases[i].calls == 1)
+    if (cases[i].run == run_walk || cases[i].run == run_hex_export || cases[i].run == run_hex_import)
         make_dump();
 }
 

@@ -2,8 +2,9 @@
 
 use crate::dump::{self, Ending, Record};
 use crate::field;
+use crate::hex;
 use crate::layout::{Layouts, Shape};
-use crate::protocol::{self, Call, Step};
+use crate::protocol::{self, Call, Limits, Step};
 use crate::refusal::Refusal;
 use crate::values;
 use std::io::{self, Read, Write};
@@ -12,10 +13,14 @@ use std::io::{self, Read, Write};
 const OUTPUT_FILL: u8 = 0xa5;
 
 /// Prints the answers to a whole stream.
-pub fn answer_stream(stream: &mut impl Read, printed: &mut impl Write) -> io::Result<()> {
+pub fn answer_stream(
+    stream: &mut impl Read,
+    limits: Limits,
+    printed: &mut impl Write,
+) -> io::Result<()> {
     let mut layouts = Layouts::default();
     loop {
-        match protocol::next_step(stream)? {
+        match protocol::next_step(stream, limits)? {
             Step::Call(call) => printed.write_all(answer(&call, &mut layouts).as_bytes())?,
             Step::Broken(broken) => return writeln!(printed, "{}", broken.line()),
             Step::End => return Ok(()),
@@ -41,8 +46,18 @@ pub fn answer(call: &Call, layouts: &mut Layouts) -> String {
             shape,
             output_length,
             cells,
-        } => export_line(*serial, *shape, *output_length, cells, layouts),
+        } => stored_line("export", *output_length, |output| {
+            dump::export(*serial, *shape, cells, output, layouts)
+        }),
         Call::Walk { dump } => walk_lines(dump, layouts),
+        Call::HexExport {
+            output_length,
+            bytes,
+        } => stored_line("hex", *output_length, |output| hex::export(bytes, output)),
+        Call::HexImport {
+            output_length,
+            text,
+        } => stored_line("unhex", *output_length, |output| hex::import(text, output)),
     }
 }
 
@@ -58,7 +73,7 @@ fn refused(refusal: Refusal) -> String {
     refusal.number().to_string()
 }
 
-fn hex(bytes: &[u8]) -> String {
+fn in_hex(bytes: &[u8]) -> String {
     bytes.iter().map(|byte| format!("{:02x}", byte)).collect()
 }
 
@@ -77,31 +92,32 @@ fn write_line(shape: Shape, number: u64, cells: &[u8], layouts: &mut Layouts) ->
     match field::write(shape, number, cells, layouts) {
         Ok(written) => line(&[
             format!("write 0 {} {}", written.generation, written.turned),
-            hex(&written.cells),
+            in_hex(&written.cells),
         ]),
-        Err(refusal) => line(&["write".to_string(), refused(refusal), hex(cells)]),
+        Err(refusal) => line(&["write".to_string(), refused(refusal), in_hex(cells)]),
     }
 }
 
-fn export_line(
-    serial: u64,
-    shape: Shape,
+/// The line of a call that stores something at the front of a lent output and
+/// answers its length.
+fn stored_line(
+    operation: &str,
     output_length: u64,
-    cells: &[u8],
-    layouts: &mut Layouts,
+    call: impl FnOnce(&mut [u8]) -> Result<usize, Refusal>,
 ) -> String {
     let mut output = vec![OUTPUT_FILL; output_length as usize];
-    match dump::export(serial, shape, cells, &mut output, layouts) {
-        Ok(length) => line(&[format!("export 0 {}", length), hex(&output)]),
-        Err(refusal) => line(&["export".to_string(), refused(refusal), hex(&output)]),
-    }
+    let answer = match call(&mut output) {
+        Ok(length) => format!("0 {}", length),
+        Err(refusal) => refused(refusal),
+    };
+    line(&[operation.to_string(), answer, in_hex(&output)])
 }
 
 fn walk_lines(dump: &[u8], layouts: &mut Layouts) -> String {
     let walk = dump::walk(dump, layouts);
     let mut lines: String = walk.records.iter().map(record_line).collect();
     lines += &match walk.ending {
-        Ending::TooLong => format!("stop {}\n", Refusal::DumpTooLong.number()),
+        Ending::TooLong => format!("stop {}\n", Refusal::TooManyBytes.number()),
         Ending::Malformed { offset } => {
             format!("stop {} {}\n", Refusal::MalformedRecord.number(), offset)
         }

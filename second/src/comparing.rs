@@ -2,7 +2,7 @@
 
 use crate::answers;
 use crate::layout::Layouts;
-use crate::protocol::{self, Step};
+use crate::protocol::{self, Limits, Step};
 use std::io;
 
 /// Above this a call is shown by its place in the stream.
@@ -14,6 +14,14 @@ pub enum Comparison {
     Differ { report: String },
 }
 
+/// A stream of calls that hold no more than the limits. Its name is how it can be
+/// reached for a replay.
+pub struct Stream<'given> {
+    pub name: &'given str,
+    pub bytes: &'given [u8],
+    pub limits: Limits,
+}
+
 /// A call of the stream, or what stands in its place at the stream's end.
 struct Compared<'stream> {
     number: u64,
@@ -22,15 +30,14 @@ struct Compared<'stream> {
     bytes: &'stream [u8],
 }
 
-/// `stream_name` is how the stream can be reached for a replay.
-pub fn compare(stream: &[u8], answers: &[u8], stream_name: &str) -> io::Result<Comparison> {
+pub fn compare(stream: &Stream, answers: &[u8]) -> io::Result<Comparison> {
     let mut layouts = Layouts::default();
-    let mut rest = stream;
+    let mut rest = stream.bytes;
     let mut there = answers;
     let mut calls = 0;
     loop {
         let before = rest;
-        let step = protocol::next_step(&mut rest)?;
+        let step = protocol::next_step(&mut rest, stream.limits)?;
         let (meaning, here) = match &step {
             Step::Call(call) => (call.meaning(), answers::answer(call, &mut layouts)),
             Step::Broken(broken) => ("no whole call".to_string(), format!("{}\n", broken.line())),
@@ -41,10 +48,10 @@ pub fn compare(stream: &[u8], answers: &[u8], stream_name: &str) -> io::Result<C
             let compared = Compared {
                 number: calls + 1,
                 meaning,
-                offset: stream.len() - before.len(),
+                offset: stream.bytes.len() - before.len(),
                 bytes: &before[..before.len() - rest.len()],
             };
-            let report = report(&compared, here.as_bytes(), there, stream_name);
+            let report = report(&compared, here.as_bytes(), there, stream);
             return Ok(Comparison::Differ { report });
         }
         if is_last {
@@ -55,7 +62,7 @@ pub fn compare(stream: &[u8], answers: &[u8], stream_name: &str) -> io::Result<C
     }
 }
 
-fn report(compared: &Compared, here: &[u8], there: &[u8], stream_name: &str) -> String {
+fn report(compared: &Compared, here: &[u8], there: &[u8], stream: &Stream) -> String {
     let agreeing = lines_of(here)
         .zip(lines_of(there))
         .take_while(|(ours, theirs)| ours == theirs)
@@ -67,7 +74,7 @@ fn report(compared: &Compared, here: &[u8], there: &[u8], stream_name: &str) -> 
         agreeing + 1,
         shown(lines_of(here).nth(agreeing)),
         shown(lines_of(there).nth(agreeing)),
-        replay(compared, stream_name)
+        replay(compared, stream)
     )
 }
 
@@ -86,16 +93,18 @@ fn shown(line: Option<&[u8]>) -> String {
     }
 }
 
-fn replay(compared: &Compared, stream_name: &str) -> String {
+fn replay(compared: &Compared, stream: &Stream) -> String {
+    let answering = format!("second answers{}", stream.limits.option());
     if compared.bytes.len() > LONGEST_REPLAY {
         // The bytes of `tail -c +N` are numbered from 1.
         return format!(
-            "tail -c +{} {} | head -c {} | second answers",
+            "tail -c +{} {} | head -c {} | {}",
             compared.offset + 1,
-            stream_name,
-            compared.bytes.len()
+            stream.name,
+            compared.bytes.len(),
+            answering
         );
     }
     let escapes = compared.bytes.iter().map(|byte| format!("\\x{:02x}", byte));
-    format!("printf '{}' | second answers", escapes.collect::<String>())
+    format!("printf '{}' | {}", escapes.collect::<String>(), answering)
 }

@@ -1,5 +1,6 @@
 //! Numbers kept in write-once cells by the position modulation code, written
-//! from the words of document 01 and, where it refers to it, the paper 003.
+//! from the words of documents 01 and 02 and, where they refer to it, the paper
+//! 003.
 //!
 //! Every rule is the plain definition over whole numbers of any size, so that
 //! its answers can be held against those of a program built another way.
@@ -11,6 +12,7 @@ pub mod counting;
 pub mod dealing;
 pub mod dump;
 pub mod field;
+pub mod hex;
 pub mod layout;
 pub mod listing;
 pub mod protocol;

@@ -11,7 +11,7 @@ pub fn fieldlist(dump: &[u8], layouts: &mut Layouts) -> String {
     let walk = dump::walk(dump, layouts);
     let mut lines: Vec<String> = walk.records.iter().map(record_line).collect();
     match walk.ending {
-        Ending::TooLong => return format!("refused {}\n", Refusal::DumpTooLong.number()),
+        Ending::TooLong => return format!("refused {}\n", Refusal::TooManyBytes.number()),
         Ending::Malformed { offset } => {
             let refusal = Refusal::MalformedRecord.number();
             lines.push(format!("stopped {} at {}", refusal, offset));

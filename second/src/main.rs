@@ -1,10 +1,11 @@
 //! The commands of `second`.
 
 use second::answers;
-use second::comparing::{self, Comparison};
+use second::comparing::{self, Comparison, Stream};
 use second::dump::LONGEST_DUMP;
 use second::layout::Layouts;
 use second::listing;
+use second::protocol::Limits;
 use second::sample;
 use second::stream;
 use second::values;
@@ -20,15 +21,27 @@ const USAGE: &str = "usage:
   second fieldlist                 list the dump on standard input
   second values                    print the paper's figures as the conditions give them
   second sample                    make the sample dump
+With --large behind their name, answers, stream and compare go by the larger limits.
 ";
 
 enum Command {
-    Answers,
-    Stream { seed: u64, calls: u64 },
-    Compare { stream: String, answers: String },
+    Answers(Limits),
+    Stream(Limits, Made),
+    Compare(Limits, Compared),
     FieldList,
     Values,
     Sample,
+}
+
+struct Made {
+    seed: u64,
+    calls: u64,
+}
+
+/// The names of two files.
+struct Compared {
+    stream: String,
+    answers: String,
 }
 
 fn main() -> ExitCode {
@@ -52,15 +65,24 @@ fn main() -> ExitCode {
 
 fn command_of(words: &[&str]) -> Option<Command> {
     match words {
-        ["answers"] => Some(Command::Answers),
-        ["stream", seed, calls] => Some(Command::Stream {
-            seed: seed.parse().ok()?,
-            calls: calls.parse().ok()?,
-        }),
-        ["compare", stream, answers] => Some(Command::Compare {
-            stream: stream.to_string(),
-            answers: answers.to_string(),
-        }),
+        ["answers", rest @ ..] => match limits_before(rest) {
+            (limits, []) => Some(Command::Answers(limits)),
+            _ => None,
+        },
+        ["stream", rest @ ..] => match limits_before(rest) {
+            (limits, [seed, calls]) => {
+                let (seed, calls) = (seed.parse().ok()?, calls.parse().ok()?);
+                Some(Command::Stream(limits, Made { seed, calls }))
+            }
+            _ => None,
+        },
+        ["compare", rest @ ..] => match limits_before(rest) {
+            (limits, [stream, answers]) => {
+                let (stream, answers) = (stream.to_string(), answers.to_string());
+                Some(Command::Compare(limits, Compared { stream, answers }))
+            }
+            _ => None,
+        },
         ["fieldlist"] => Some(Command::FieldList),
         ["values"] => Some(Command::Values),
         ["sample"] => Some(Command::Sample),
@@ -68,18 +90,26 @@ fn command_of(words: &[&str]) -> Option<Command> {
     }
 }
 
+/// The limits that a command goes by, and the words behind them.
+fn limits_before<'words>(words: &'words [&'words str]) -> (Limits, &'words [&'words str]) {
+    match words {
+        ["--large", rest @ ..] => (Limits::LARGE, rest),
+        _ => (Limits::USUAL, words),
+    }
+}
+
 fn run(command: Command) -> io::Result<ExitCode> {
     let mut printed = BufWriter::new(io::stdout());
     let code = match command {
-        Command::Answers => {
-            answers::answer_stream(&mut BufReader::new(io::stdin()), &mut printed)?;
+        Command::Answers(limits) => {
+            answers::answer_stream(&mut BufReader::new(io::stdin()), limits, &mut printed)?;
             ExitCode::SUCCESS
         }
-        Command::Stream { seed, calls } => {
-            stream::write_stream(seed, calls, &mut printed)?;
+        Command::Stream(limits, made) => {
+            stream::write_stream(made.seed, made.calls, limits, &mut printed)?;
             ExitCode::SUCCESS
         }
-        Command::Compare { stream, answers } => compare(&stream, &answers, &mut printed)?,
+        Command::Compare(limits, compared) => compare(limits, &compared, &mut printed)?,
         Command::FieldList => {
             let list = listing::fieldlist(&dump_from_input()?, &mut Layouts::default());
             printed.write_all(list.as_bytes())?;
@@ -104,8 +134,13 @@ fn run(command: Command) -> io::Result<ExitCode> {
     Ok(code)
 }
 
-fn compare(stream: &str, answers: &str, printed: &mut impl Write) -> io::Result<ExitCode> {
-    match comparing::compare(&bytes_of(stream)?, &bytes_of(answers)?, stream)? {
+fn compare(limits: Limits, files: &Compared, printed: &mut impl Write) -> io::Result<ExitCode> {
+    let stream = Stream {
+        name: &files.stream,
+        bytes: &bytes_of(&files.stream)?,
+        limits,
+    };
+    match comparing::compare(&stream, &bytes_of(&files.answers)?)? {
         Comparison::Agree { calls } => {
             writeln!(printed, "{} calls agree", calls)?;
             Ok(ExitCode::SUCCESS)

@@ -1,13 +1,38 @@
 //! Calls as a stream of bytes: one byte says which call it is, its numbers follow
-//! as eight bytes each from the low one up, and cells or a dump as one number
-//! more, which counts them, and the bytes themselves.
+//! as eight bytes each from the low one up, and cells, a dump or a text as one
+//! number more, which counts them, and the bytes themselves.
 
 use crate::layout::Shape;
 use std::io::{self, ErrorKind, Read};
 
-/// A dump one byte too long to be walked must still fit in a call.
-pub const MOST_BYTES: u64 = 65_537;
-pub const LONGEST_OUTPUT: u64 = 1_024;
+/// How much a call may hold.
+#[derive(Clone, Copy, Debug, PartialEq, Eq)]
+pub struct Limits {
+    pub bytes: u64,
+    pub output: u64,
+}
+
+impl Limits {
+    /// A dump one byte too long to be walked fits.
+    pub const USUAL: Limits = Limits {
+        bytes: 65_537,
+        output: 1_024,
+    };
+
+    /// A HEX text of 65,536 bytes fits, as text and as output.
+    pub const LARGE: Limits = Limits {
+        bytes: 262_144,
+        output: 262_144,
+    };
+
+    /// What a command of `second` is told, behind its name, to keep to them.
+    pub fn option(self) -> &'static str {
+        match self {
+            Limits::LARGE => " --large",
+            _ => "",
+        }
+    }
+}
 
 #[derive(Clone, Debug, PartialEq, Eq)]
 pub enum Call {
@@ -32,6 +57,14 @@ pub enum Call {
     },
     Walk {
         dump: Vec<u8>,
+    },
+    HexExport {
+        output_length: u64,
+        bytes: Vec<u8>,
+    },
+    HexImport {
+        output_length: u64,
+        text: Vec<u8>,
     },
 }
 
@@ -62,14 +95,14 @@ pub enum Step {
 
 /// The next call of a stream. Each number is tested as soon as it is read, so a
 /// call that is both too long and cut off later is too long.
-pub fn next_step(stream: &mut impl Read) -> io::Result<Step> {
+pub fn next_step(stream: &mut impl Read, limits: Limits) -> io::Result<Step> {
     let mut operation = [0];
     match filled(stream, &mut operation) {
         Ok(()) => {}
         Err(Failure::Broken(_)) => return Ok(Step::End),
         Err(Failure::Input(error)) => return Err(error),
     }
-    match call_after(operation[0], stream) {
+    match call_after(operation[0], stream, limits) {
         Ok(call) => Ok(Step::Call(call)),
         Err(Failure::Broken(broken)) => Ok(Step::Broken(broken)),
         Err(Failure::Input(error)) => Err(error),
@@ -91,7 +124,7 @@ fn filled(stream: &mut impl Read, bytes: &mut [u8]) -> Result<(), Failure> {
         })
 }
 
-fn call_after(operation: u8, stream: &mut impl Read) -> Result<Call, Failure> {
+fn call_after(operation: u8, stream: &mut impl Read, limits: Limits) -> Result<Call, Failure> {
     match operation {
         1 => Ok(Call::Layout {
             shape: shape(stream)?,
@@ -99,21 +132,29 @@ fn call_after(operation: u8, stream: &mut impl Read) -> Result<Call, Failure> {
         }),
         2 => Ok(Call::Read {
             shape: shape(stream)?,
-            cells: counted_bytes(stream)?,
+            cells: counted_bytes(limits, stream)?,
         }),
         3 => Ok(Call::Write {
             shape: shape(stream)?,
             number: number(stream)?,
-            cells: counted_bytes(stream)?,
+            cells: counted_bytes(limits, stream)?,
         }),
         4 => Ok(Call::Export {
             serial: number(stream)?,
             shape: shape(stream)?,
-            output_length: number_up_to(LONGEST_OUTPUT, stream)?,
-            cells: counted_bytes(stream)?,
+            output_length: number_up_to(limits.output, stream)?,
+            cells: counted_bytes(limits, stream)?,
         }),
         5 => Ok(Call::Walk {
-            dump: counted_bytes(stream)?,
+            dump: counted_bytes(limits, stream)?,
+        }),
+        6 => Ok(Call::HexExport {
+            output_length: number_up_to(limits.output, stream)?,
+            bytes: counted_bytes(limits, stream)?,
+        }),
+        7 => Ok(Call::HexImport {
+            output_length: number_up_to(limits.output, stream)?,
+            text: counted_bytes(limits, stream)?,
         }),
         _ => Err(Failure::Broken(Broken::NoSuchCall)),
     }
@@ -141,8 +182,8 @@ fn shape(stream: &mut impl Read) -> Result<Shape, Failure> {
     })
 }
 
-fn counted_bytes(stream: &mut impl Read) -> Result<Vec<u8>, Failure> {
-    let count = number_up_to(MOST_BYTES, stream)?;
+fn counted_bytes(limits: Limits, stream: &mut impl Read) -> Result<Vec<u8>, Failure> {
+    let count = number_up_to(limits.bytes, stream)?;
     let mut bytes = vec![0; count as usize];
     filled(stream, &mut bytes)?;
     Ok(bytes)
@@ -151,7 +192,18 @@ fn counted_bytes(stream: &mut impl Read) -> Result<Vec<u8>, Failure> {
 impl Call {
     /// The call as the stream holds it; there is one such form only.
     pub fn to_bytes(&self) -> Vec<u8> {
-        let (operation, numbers, lent) = match self {
+        let (operation, numbers, lent) = self.parts();
+        let mut bytes = vec![operation];
+        bytes.extend(numbers.iter().flat_map(|number| number.to_le_bytes()));
+        if let Some(lent) = lent {
+            bytes.extend((lent.len() as u64).to_le_bytes());
+            bytes.extend(lent);
+        }
+        bytes
+    }
+
+    fn parts(&self) -> (u8, Vec<u64>, Option<&[u8]>) {
+        match self {
             Call::Layout { shape, offered } => (1, vec![shape.m, shape.t, shape.v, *offered], None),
             Call::Read { shape, cells } => (2, vec![shape.m, shape.t, shape.v], Some(cells)),
             Call::Write {
@@ -170,14 +222,15 @@ impl Call {
                 Some(cells),
             ),
             Call::Walk { dump } => (5, Vec::new(), Some(dump)),
-        };
-        let mut bytes = vec![operation];
-        bytes.extend(numbers.iter().flat_map(|number| number.to_le_bytes()));
-        if let Some(lent) = lent {
-            bytes.extend((lent.len() as u64).to_le_bytes());
-            bytes.extend(lent);
+            Call::HexExport {
+                output_length,
+                bytes,
+            } => (6, vec![*output_length], Some(bytes)),
+            Call::HexImport {
+                output_length,
+                text,
+            } => (7, vec![*output_length], Some(text)),
         }
-        bytes
     }
 
     /// The call in words, for a person who looks into a difference.
@@ -191,25 +244,45 @@ impl Call {
                 shape,
                 number,
                 cells,
-            } => format!(
-                "write {}, number {}, {} of cells",
-                numbers(shape),
-                number,
-                counted(cells)
-            ),
+            } => {
+                let cells = counted(cells);
+                format!(
+                    "write {}, number {}, {} of cells",
+                    numbers(shape),
+                    number,
+                    cells
+                )
+            }
             Call::Export {
                 serial,
                 shape,
                 output_length,
                 cells,
-            } => format!(
-                "export serial {}, {}, output length {}, {} of cells",
-                serial,
-                numbers(shape),
-                output_length,
-                counted(cells)
-            ),
+            } => {
+                let given = format!("serial {}, {}", serial, numbers(shape));
+                let cells = counted(cells);
+                format!(
+                    "export {}, output length {}, {} of cells",
+                    given, output_length, cells
+                )
+            }
             Call::Walk { dump } => format!("walk a dump of {}", counted(dump)),
+            Call::HexExport {
+                output_length,
+                bytes,
+            } => format!(
+                "HEX export, output length {}, {}",
+                output_length,
+                counted(bytes)
+            ),
+            Call::HexImport {
+                output_length,
+                text,
+            } => format!(
+                "HEX import, output length {}, {} of text",
+                output_length,
+                counted(text)
+            ),
         }
     }
 }

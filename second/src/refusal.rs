@@ -1,4 +1,5 @@
-//! The table "Refusal numbers, tested in this order" of document 01.
+//! The table "Refusal numbers, tested in this order" of document 01, and the
+//! numbers that the requests of document 02 add to it.
 
 /// "A refusal carries its number only"; the offset that goes with number 7
 /// belongs to the walk (see `dump::Ending`).
@@ -11,9 +12,16 @@ pub enum Refusal {
     LastGenerationUsed = 5,
     NumberOutOfRange = 6,
     MalformedRecord = 7,
-    DumpTooLong = 8,
+    /// Of a dump that is walked, or of bytes for a HEX text.
+    TooManyBytes = 8,
     OutputTooShort = 9,
     SerialOutOfBounds = 10,
+    LineShape = 20,
+    WrongSum = 21,
+    DataOutside = 22,
+    NoEnd = 23,
+    /// Or text after the end line.
+    OtherType = 24,
 }
 
 impl Refusal {

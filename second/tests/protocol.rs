@@ -1,17 +1,21 @@
 //! Calls as bytes, their lines, and the comparison of two sets of answers.
 
 use second::answers;
-use second::comparing::{compare, Comparison};
+use second::comparing::{compare, Comparison, Stream};
 use second::dump;
 use second::layout::{Layouts, Shape};
-use second::protocol::{self, Call, Step};
+use second::protocol::{self, Call, Limits, Step};
 use second::stream::Maker;
 
 const SHAPE: Shape = Shape { m: 2, t: 3, v: 4 };
 
 fn answered(stream: &[u8]) -> String {
+    answered_within(Limits::USUAL, stream)
+}
+
+fn answered_within(limits: Limits, stream: &[u8]) -> String {
     let mut printed = Vec::new();
-    answers::answer_stream(&mut &stream[..], &mut printed).expect("both are in memory");
+    answers::answer_stream(&mut &stream[..], limits, &mut printed).expect("both are in memory");
     String::from_utf8(printed).expect("answers are plain text")
 }
 
@@ -47,6 +51,20 @@ fn export_call(serial: u64, output_length: u64, cells: &[u8]) -> Call {
 fn walk_call(dump: &[u8]) -> Call {
     Call::Walk {
         dump: dump.to_vec(),
+    }
+}
+
+fn hex_export_call(output_length: u64, bytes: &[u8]) -> Call {
+    Call::HexExport {
+        output_length,
+        bytes: bytes.to_vec(),
+    }
+}
+
+fn hex_import_call(output_length: u64, text: &[u8]) -> Call {
+    Call::HexImport {
+        output_length,
+        text: text.to_vec(),
     }
 }
 
@@ -89,13 +107,28 @@ fn lines_of_walks() {
 }
 
 #[test]
+fn lines_of_hex_calls() {
+    let text = "3a30303030303030314646";
+    let stored = line_of(hex_export_call(14, &[]));
+    assert_eq!(stored, format!("hex 0 12 {}0aa5a5\n", text));
+    assert_eq!(line_of(hex_export_call(3, &[])), "hex 9 a5a5a5\n");
+    assert_eq!(line_of(hex_export_call(0, &[0; 65_537])), "hex 8\n");
+    let text = b":010000004FB0\n:00000001ff\r\n";
+    assert_eq!(line_of(hex_import_call(3, text)), "unhex 0 1 4fa5a5\n");
+    assert_eq!(line_of(hex_import_call(1, &text[..14])), "unhex 23 a5\n");
+    assert_eq!(line_of(hex_import_call(0, text)), "unhex 9\n");
+    let end = hex_import_call(0, b":00000001FF\n");
+    assert_eq!(line_of(end), "unhex 0 0\n");
+}
+
+#[test]
 fn made_calls_come_back_from_their_bytes() {
-    let mut maker = Maker::new(3);
+    let mut maker = Maker::new(3, Limits::USUAL);
     for _ in 0..2_000 {
         let call = maker.call();
         let bytes = call.to_bytes();
         let mut rest = &bytes[..];
-        let step = protocol::next_step(&mut rest).expect("the stream is in memory");
+        let step = protocol::next_step(&mut rest, Limits::USUAL).expect("the stream is in memory");
         assert_eq!(step, Step::Call(call));
         assert!(rest.is_empty());
     }
@@ -109,6 +142,8 @@ fn a_call_cut_off_anywhere_is_said_so() {
         write_call(3, &[0]),
         export_call(7, 8, &[0x4f]),
         walk_call(&[1, 2, 3]),
+        hex_export_call(26, &[0x4f]),
+        hex_import_call(1, b":00000001FF\n"),
     ];
     for call in calls {
         let bytes = call.to_bytes();
@@ -123,7 +158,7 @@ fn a_call_cut_off_anywhere_is_said_so() {
 
 #[test]
 fn operations_that_are_none() {
-    for operation in (0..=255).filter(|operation| !(1..=5).contains(operation)) {
+    for operation in (0..=255).filter(|operation| !(1..=7).contains(operation)) {
         let stream = [&read_call(&[0x23]).to_bytes()[..], &[operation, 1, 2]].concat();
         assert_eq!(answered(&stream), "read 0 2 3 1\nno such call\n");
     }
@@ -141,6 +176,23 @@ fn calls_that_are_too_long() {
     assert!(answered(&lent).starts_with("export 0 6 "));
     let lent = export_call(7, 1_025, &[0x4f]).to_bytes();
     assert_eq!(answered(&lent), "too long\n");
+    for lent in [hex_export_call(1_025, &[]), hex_import_call(1_025, &[])] {
+        assert_eq!(answered(&lent.to_bytes()), "too long\n");
+    }
+}
+
+#[test]
+fn larger_limits() {
+    let within = |call: Call| answered_within(Limits::LARGE, &call.to_bytes());
+    let full = hex_export_call(180_236, &[0; 65_536]);
+    assert_eq!(answered(&full.to_bytes()), "too long\n");
+    assert!(within(full).starts_with("hex 0 180236 3a3130"));
+    assert_eq!(within(hex_import_call(0, &[0; 262_144])), "unhex 20\n");
+    assert_eq!(within(hex_import_call(0, &[0; 262_145])), "too long\n");
+    let answer = within(hex_import_call(262_144, &[]));
+    assert_eq!(answer, format!("unhex 23 {}\n", "a5".repeat(262_144)));
+    assert_eq!(within(hex_import_call(262_145, &[])), "too long\n");
+    assert_eq!(within(walk_call(&[0; 65_538])), "stop 8\n");
 }
 
 fn sample_stream() -> Vec<u8> {
@@ -155,7 +207,12 @@ fn sample_stream() -> Vec<u8> {
 }
 
 fn report_of(stream: &[u8], answers: &str) -> String {
-    match compare(stream, answers.as_bytes(), "calls.bin").expect("all is in memory") {
+    let stream = Stream {
+        name: "calls.bin",
+        bytes: stream,
+        limits: Limits::USUAL,
+    };
+    match compare(&stream, answers.as_bytes()).expect("all is in memory") {
         Comparison::Agree { calls } => format!("{} calls agree", calls),
         Comparison::Differ { report } => report,
     }
@@ -215,6 +272,20 @@ fn a_long_call_is_replayed_from_the_stream() {
         offset, length
     );
     assert!(report.contains(&replay));
+}
+
+#[test]
+fn a_replay_goes_by_the_limits_of_the_comparison() {
+    let bytes = hex_export_call(2_000, &[]).to_bytes();
+    let stream = Stream {
+        name: "calls.bin",
+        bytes: &bytes,
+        limits: Limits::LARGE,
+    };
+    match compare(&stream, b"hex 8\n").expect("all is in memory") {
+        Comparison::Differ { report } => assert!(report.ends_with("' | second answers --large\n")),
+        Comparison::Agree { .. } => panic!("the answers differ"),
+    }
 }
 
 #[test]

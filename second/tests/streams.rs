@@ -4,20 +4,20 @@ use second::answers;
 use second::dump::{self, Ending};
 use second::field;
 use second::layout::{Layouts, Shape};
-use second::protocol::Call;
+use second::protocol::{Call, Limits};
 use second::stream::{write_stream, Maker};
 use std::collections::HashSet;
 
 const CALLS: usize = 20_000;
 
 fn calls(seed: u64) -> Vec<Call> {
-    let mut maker = Maker::new(seed);
+    let mut maker = Maker::new(seed, Limits::USUAL);
     (0..CALLS).map(|_| maker.call()).collect()
 }
 
 fn bytes(seed: u64) -> Vec<u8> {
     let mut stream = Vec::new();
-    write_stream(seed, 500, &mut stream).expect("the stream is in memory");
+    write_stream(seed, 500, Limits::USUAL, &mut stream).expect("the stream is in memory");
     stream
 }
 
@@ -28,11 +28,15 @@ fn a_seed_makes_the_same_stream_again_and_another_makes_another() {
 }
 
 #[test]
-fn calls_are_small_but_for_the_dumps_of_full_size() {
-    let lengths = calls(1).into_iter().map(|call| call.to_bytes().len());
-    let (large, small): (Vec<usize>, Vec<usize>) = lengths.partition(|length| *length > 65_000);
-    assert_eq!(large, [1 + 8 + 65_536, 1 + 8 + 65_537]);
-    assert!(small.iter().sum::<usize>() / small.len() < 150);
+fn calls_are_small_but_for_the_last_ones() {
+    let mut lengths: Vec<usize> = calls(1).iter().map(|call| call.to_bytes().len()).collect();
+    let large = lengths.split_off(CALLS - 6);
+    // Two imports and two exports of HEX, the longer one first, and two walks.
+    assert_eq!(large[1..4], [17 + 65_537, 17 + 65_537, 17 + 65_536]);
+    assert_eq!(large[4..], [9 + 65_536, 9 + 65_537]);
+    assert!((60_000..17 + 65_537).contains(&large[0]));
+    assert!(lengths.iter().all(|length| *length < 8_000));
+    assert!(lengths.iter().sum::<usize>() / lengths.len() < 150);
 }
 
 /// The first words of every line: the operation and its refusal, and for an
@@ -82,6 +86,16 @@ fn every_kind_of_answer_is_met() {
         "end",
         "stop 7",
         "stop 8",
+        "hex 0",
+        "hex 8",
+        "hex 9",
+        "unhex 0",
+        "unhex 9",
+        "unhex 20",
+        "unhex 21",
+        "unhex 22",
+        "unhex 23",
+        "unhex 24",
     ]
     .map(String::from)
     .to_vec();
@@ -127,7 +141,7 @@ fn shape_of(call: &Call) -> Option<Shape> {
         | Call::Read { shape, .. }
         | Call::Write { shape, .. }
         | Call::Export { shape, .. } => Some(*shape),
-        Call::Walk { .. } => None,
+        Call::Walk { .. } | Call::HexExport { .. } | Call::HexImport { .. } => None,
     }
 }
 

@@ -3,31 +3,39 @@
 mod chance;
 mod dumps;
 mod fields;
+mod hex;
+mod hex_damage;
 mod shapes;
 
 use crate::cells;
 use crate::dump::{self, LARGEST_SERIAL, LONGEST_DUMP};
 use crate::field;
 use crate::layout::{Layouts, GROUPS_OFFERED};
-use crate::protocol::{Call, LONGEST_OUTPUT};
+use crate::protocol::{Call, Limits};
 use chance::Chance;
 use std::collections::VecDeque;
 use std::io::{self, Write};
 
 /// In each so many calls, the last two walk a dump of full size and one that is
-/// a byte too long.
+/// a byte too long, and those before them are HEX calls of full size.
 const CALLS_TO_FULL_SIZE: u64 = 20_000;
 
 /// Makes the calls of one seed.
 pub struct Maker {
     chance: Chance,
+    limits: Limits,
     layouts: Layouts,
     calls_made: u64,
     waiting: VecDeque<Call>,
 }
 
-pub fn write_stream(seed: u64, calls: u64, stream: &mut impl Write) -> io::Result<()> {
-    let mut maker = Maker::new(seed);
+pub fn write_stream(
+    seed: u64,
+    calls: u64,
+    limits: Limits,
+    stream: &mut impl Write,
+) -> io::Result<()> {
+    let mut maker = Maker::new(seed, limits);
     for _ in 0..calls {
         stream.write_all(&maker.call().to_bytes())?;
     }
@@ -35,9 +43,10 @@ pub fn write_stream(seed: u64, calls: u64, stream: &mut impl Write) -> io::Resul
 }
 
 impl Maker {
-    pub fn new(seed: u64) -> Maker {
+    pub fn new(seed: u64, limits: Limits) -> Maker {
         Maker {
             chance: Chance::new(seed),
+            limits,
             layouts: Layouts::default(),
             calls_made: 0,
             waiting: VecDeque::new(),
@@ -45,12 +54,10 @@ impl Maker {
     }
 
     pub fn call(&mut self) -> Call {
+        let calls_to_follow = CALLS_TO_FULL_SIZE - 1 - self.calls_made % CALLS_TO_FULL_SIZE;
         self.calls_made += 1;
-        if (self.calls_made + 1) % CALLS_TO_FULL_SIZE == 0 {
-            return self.walk_of_length(LONGEST_DUMP);
-        }
-        if self.calls_made % CALLS_TO_FULL_SIZE == 0 {
-            return self.walk_of_length(LONGEST_DUMP + 1);
+        if let Some(call) = self.full_size_call(calls_to_follow) {
+            return call;
         }
         loop {
             if let Some(call) = self.waiting.pop_front() {
@@ -60,14 +67,24 @@ impl Maker {
         }
     }
 
+    fn full_size_call(&mut self, calls_to_follow: u64) -> Option<Call> {
+        match calls_to_follow {
+            0 => Some(self.walk_of_length(LONGEST_DUMP + 1)),
+            1 => Some(self.walk_of_length(LONGEST_DUMP)),
+            _ => self.full_size_hex_call(calls_to_follow - 2),
+        }
+    }
+
     fn make_calls(&mut self) {
-        let call = match self.chance.between(1, 100) {
+        let call = match self.chance.between(1, 114) {
             1..=16 => self.layout_call(),
             17..=38 => self.read_call(),
             39..=54 => self.write_call(),
             55..=58 => return self.make_chain(),
             59..=74 => self.export_call(),
-            _ => Call::Walk { dump: self.dump() },
+            75..=100 => Call::Walk { dump: self.dump() },
+            101..=104 => self.hex_export_call(),
+            _ => self.hex_import_call(),
         };
         self.waiting.push_back(call);
     }
@@ -148,7 +165,7 @@ impl Maker {
             12..=13 => record + self.chance.between(0, 20),
             14 => 0,
             15 => self.chance.between(0, record),
-            _ => self.chance.pick(&[1, 128, 256, LONGEST_OUTPUT]),
+            _ => self.chance.pick(&[1, 128, 256, Limits::USUAL.output]),
         };
         Call::Export {
             serial,
