@@ -1,6 +1,6 @@
 /*
- * Answers a stream of calls on standard input, a line for each on standard output, as crates/answers/src/main.rt tells. With
- * GORVLIME defined the archive answers, and else plain C.
+ * Answers a stream of calls on standard input, a line for each on standard output, as crates/answers/src/main.rt tells, but
+ * with larger limits, so that HEX texts of full length fit. With GORVLIME defined the archive answers, and else plain C.
  */
 #include "chosen.h"
 
@@ -9,12 +9,14 @@
 #include <stdlib.h>
 #include <string.h>
 
-enum { MOST_BYTES = 65537, MOST_OUTPUT = 1024, OUTPUT_FILL = 0xa5, ROWS_AT_ONCE = 7 };
+enum { MOST_BYTES = 262144, MOST_OUTPUT = 262144, OUTPUT_FILL = 0xa5, ROWS_AT_ONCE = 7 };
 
 struct lent {
     size_t count;
     uint8_t bytes[MOST_BYTES];
 };
+
+static uint8_t output[MOST_OUTPUT];   /* lent by the calls that store one */
 
 static void give_up(const char *why)
 {
@@ -103,19 +105,42 @@ static void answer_write(struct lent *lent)
     putchar('\n');
 }
 
+static size_t get_output(void)
+{
+    size_t count = get_count(MOST_OUTPUT);
+    memset(output, OUTPUT_FILL, count);
+    return count;
+}
+
+static void put_stored(const char *word, struct gorvlime_exported e, size_t output_count)
+{
+    uint64_t numbers[] = {e.refusal, e.length};
+    put_numbers(word, numbers, e.refusal == 0 ? 2 : 1);
+    put_hex(output, output_count);
+    putchar('\n');
+}
+
 static void answer_export(struct lent *lent)
 {
-    uint8_t out[MOST_OUTPUT];
     uint64_t serial = get_number();
     struct gorvlime_shape f = get_shape();
-    size_t out_count = get_count(MOST_OUTPUT);
+    size_t output_count = get_output();
     get_bytes(lent);
-    memset(out, OUTPUT_FILL, sizeof out);
-    struct gorvlime_exported e = CALL(export)(serial, f.m, f.t, f.v, lent->bytes, lent->count, out, out_count);
-    uint64_t numbers[] = {e.refusal, e.length};
-    put_numbers("export", numbers, e.refusal == 0 ? 2 : 1);
-    put_hex(out, out_count);
-    putchar('\n');
+    put_stored("export", CALL(export)(serial, f.m, f.t, f.v, lent->bytes, lent->count, output, output_count), output_count);
+}
+
+static void answer_hex_export(struct lent *lent)
+{
+    size_t output_count = get_output();
+    get_bytes(lent);
+    put_stored("hex", CALL(hex_export)(lent->bytes, lent->count, output, output_count), output_count);
+}
+
+static void answer_hex_import(struct lent *lent)
+{
+    size_t output_count = get_output();
+    get_bytes(lent);
+    put_stored("unhex", CALL(hex_import)(lent->bytes, lent->count, output, output_count), output_count);
 }
 
 /* Prints a row and takes the step that it should come from. False: the step says otherwise. */
@@ -173,6 +198,8 @@ int main(void)
         case 3: answer_write(&lent); break;
         case 4: answer_export(&lent); break;
         case 5: answer_walk(&lent); break;
+        case 6: answer_hex_export(&lent); break;
+        case 7: answer_hex_import(&lent); break;
         default: give_up("no such call");
         }
     }

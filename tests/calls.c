@@ -280,5 +280,6 @@ int main(int count, char **words)
     check_chains();
     check_published_field();
     check_dump_calls();
+    check_hex_calls();
     return done(atoi(words[1]));
 }

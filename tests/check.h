@@ -34,4 +34,6 @@ int done(unsigned due);
 
 void check_dump_calls(void);
 
+void check_hex_calls(void);
+
 #endif
