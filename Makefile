@@ -17,6 +17,7 @@ test:
 	@tests/run-values
 	@rt staticlib gorvlime
 	@tests/run-calls
+	@tests/run-hex
 	@tools/frames target/staticlib/libgorvlime.a --limit 1500 --limit gorvlime_layout=496
 	@tests/crosscheck $(CALLS)
 	@rt ci
