@@ -1,6 +1,6 @@
 /*
- * Answers a stream of calls on standard input, a line for each on standard output, as crates/answers/src/main.rt tells, but
- * with larger limits, so that HEX texts of full length fit. With GORVLIME defined the archive answers, and else plain C.
+ * Answers a stream of calls on standard input, a line for each on standard output, as crates/answers/src/main.rt tells,
+ * with larger limits, so that HEX texts of full length fit. With GORVLIME defined the archive answers, else plain C.
  */
 #include "chosen.h"
 
@@ -126,7 +126,8 @@ static void answer_export(struct lent *lent)
     struct gorvlime_shape f = get_shape();
     size_t output_count = get_output();
     get_bytes(lent);
-    put_stored("export", CALL(export)(serial, f.m, f.t, f.v, lent->bytes, lent->count, output, output_count), output_count);
+    struct gorvlime_exported e = CALL(export)(serial, f.m, f.t, f.v, lent->bytes, lent->count, output, output_count);
+    put_stored("export", e, output_count);
 }
 
 static void answer_hex_export(struct lent *lent)

@@ -1,6 +1,6 @@
 /*
- * What the archive costs beside plain C: all calls on the drives' field, m 2, t 10, v 2^56, reads and writes on the largest
- * fields and on a small one, and a dump of full size to HEX and back.
+ * What the archive costs beside plain C: all calls on the drives' field, m 2, t 10, v 2^56, reads and writes on the
+ * largest fields and on a small one, and a dump of full size to HEX and back.
  *
  *     bench list               the cases, a line for each: calls in one run of it, and its name
  *     bench same               compares the answers of both in every case
@@ -36,10 +36,12 @@ struct calls {
 };
 
 static const struct calls plain = {
-    plain_layout, plain_read, plain_write, plain_export, plain_walk, plain_hex_export, plain_hex_import,
+    plain_layout, plain_read, plain_write, plain_export, plain_walk,
+    plain_hex_export, plain_hex_import,
 };
 static const struct calls archive = {
-    gorvlime_layout, gorvlime_read, gorvlime_write, gorvlime_export, gorvlime_walk, gorvlime_hex_export, gorvlime_hex_import,
+    gorvlime_layout, gorvlime_read, gorvlime_write, gorvlime_export, gorvlime_walk,
+    gorvlime_hex_export, gorvlime_hex_import,
 };
 
 /* A field, and chains of writes from blank cells to its last generation. */
@@ -184,8 +186,8 @@ static size_t put_record(uint8_t *out, uint64_t serial, const uint8_t *parameter
 }
 
 /*
- * The dump and its text. The records differ in serial and cells only; what stands between comes from an exported one with a
- * serial of one byte.
+ * The dump and its text. The records differ in serial and cells only; what stands between comes from an exported one
+ * with a serial of one byte.
  */
 static void make_dump(void)
 {

@@ -15,7 +15,7 @@
 /* One byte more than an address can be given to, so that the call sees what is too much and refuses it. */
 static uint8_t cells[65536 + 1];
 
-/* An exported text is at most 180,236 characters. Others may be longer: this is enough for lines of one byte with CR LF. */
+/* An exported text has at most 180,236 characters. Others are longer: here is room for lines of one byte with CR LF. */
 static uint8_t text[1 << 20];
 
 static const char *words_for(uint64_t refusal)

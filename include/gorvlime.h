@@ -11,8 +11,8 @@
  * Ask gorvlime_layout once how large the field is, keep that many bytes of cells, all zeros at first, and hand them to
  * gorvlime_write and gorvlime_read. gorvlime_export makes a record of a field, records one after the other are a dump, and
  * gorvlime_step and gorvlime_walk list a dump. examples/board.c shows all of the board's side on one page.
- * gorvlime_hex_export and gorvlime_hex_import turn bytes into Intel HEX and back, for the bench that programs new boards:
- * examples/bench.c.
+ * gorvlime_hex_export and gorvlime_hex_import turn bytes into Intel HEX and back, for the bench that programs new
+ * boards; examples/bench.c does so with a file.
  *
  * For every call:
  * - `refusal` is 0 when the call was accepted. When it is not, all other numbers of the answer are 0 and nothing was stored
@@ -36,8 +36,8 @@ extern "C" {
 #endif
 
 /*
- * Why a call was refused. The tests are made in the order of this list, and the first that holds is the answer. A HEX text
- * is tested line by line: 23, 20, 21, 22, 24 at one line, the same at the next, and 9 when all lines have passed.
+ * Why a call was refused. The tests are made in the order of this list, and the first that holds is the answer. A HEX
+ * text is tested line by line: 23, 20, 21, 22, 24 at one line, the same at the next, and 9 when all lines have passed.
  */
 enum gorvlime_refusal {
     GORVLIME_ACCEPTED = 0,      /* from                  when                                               */
@@ -172,11 +172,11 @@ struct gorvlime_walked gorvlime_walk(const uint8_t *dump, size_t dump_count, siz
 /*
  * Bytes as an Intel HEX text.
  *
- * Takes at most 65,536 bytes, of cells or any others, and an output. Stores the text at the front of the output, leaves the
- * bytes behind it as they are, and answers the text's length: n bytes make 12 * ((n + 15) / 16) + 2 * n + 12 characters, at
- * most 180,236, and no 0 behind them.
- * The text is a data line for each 16 bytes, the last one for what is left, at addresses from 0, and the end line :00000001FF.
- * Its digits are upper case and each line ends in a line feed.
+ * Takes at most 65,536 bytes, of cells or any others, and an output. Stores the text at the front of the output, leaves
+ * the bytes behind it as they are, and answers the text's length: n bytes make 12 * ((n + 15) / 16) + 2 * n + 12
+ * characters, at most 180,236, and no 0 behind them.
+ * The text is a data line for each 16 bytes, the last one for what is left, at addresses from 0, and the end line
+ * :00000001FF. Its digits are upper case and each line ends in a line feed.
  * Refusals: 8, 9.
  */
 struct gorvlime_exported gorvlime_hex_export(const uint8_t *bytes, size_t bytes_count, uint8_t *out, size_t out_count);
@@ -184,13 +184,13 @@ struct gorvlime_exported gorvlime_hex_export(const uint8_t *bytes, size_t bytes_
 /*
  * The bytes of an Intel HEX text.
  *
- * Takes a text of any length and an output. Stores the bytes at the front of the output, leaves what is behind them as it is,
- * and answers how many they are: at most 65,536, and fewer than text_count / 2.
- * A line is a colon, the count of its data bytes (0 to 255), an address, a type, the data and a sum, in hex digits of either
- * case: four for the address, two for each other byte. With the sum, all bytes of the line add up to 0 modulo 256. Each line
- * ends in a line feed, with or without a carriage return before it, and so does the last. Data lines are of type 00, the data
- * begins at address 0 and runs on without a gap to FFFF at most; a line of no data may have any address. The end line is
- * :00000001FF, and nothing is behind it.
+ * Takes a text of any length and an output. Stores the bytes at the front of the output, leaves what is behind them as it
+ * is, and answers how many they are: at most 65,536, and fewer than text_count / 2.
+ * A line is a colon, the count of its data bytes (0 to 255), an address, a type, the data and a sum, in hex digits of
+ * either case: four for the address, two for each other byte. With the sum, all bytes of the line add up to 0 modulo 256.
+ * Each line, the last one too, ends in a line feed, with or without a carriage return before it. Data lines are of type
+ * 00; the data begins at address 0 and runs on without a gap to FFFF at most, and a line of no data may have any address.
+ * The last line is the end line :00000001FF, and nothing is behind it.
  * Refusals: at each line 23 (there is none), 20, 21, 22, 24; behind the end line 24; then 9.
  */
 struct gorvlime_exported gorvlime_hex_import(const uint8_t *text, size_t text_count, uint8_t *out, size_t out_count);
