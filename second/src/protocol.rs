@@ -237,21 +237,14 @@ impl Call {
     pub fn meaning(&self) -> String {
         match self {
             Call::Layout { shape, offered } => format!("layout {}, g {}", numbers(shape), offered),
-            Call::Read { shape, cells } => {
-                format!("read {}, {} of cells", numbers(shape), counted(cells))
-            }
+            Call::Read { shape, cells } => format!("read {}, {}", numbers(shape), of_cells(cells)),
             Call::Write {
                 shape,
                 number,
                 cells,
             } => {
-                let cells = counted(cells);
-                format!(
-                    "write {}, number {}, {} of cells",
-                    numbers(shape),
-                    number,
-                    cells
-                )
+                let given = format!("{}, number {}", numbers(shape), number);
+                format!("write {}, {}", given, of_cells(cells))
             }
             Call::Export {
                 serial,
@@ -260,31 +253,32 @@ impl Call {
                 cells,
             } => {
                 let given = format!("serial {}, {}", serial, numbers(shape));
-                let cells = counted(cells);
                 format!(
-                    "export {}, output length {}, {} of cells",
-                    given, output_length, cells
+                    "export {}, {}, {}",
+                    given,
+                    lent(*output_length),
+                    of_cells(cells)
                 )
             }
             Call::Walk { dump } => format!("walk a dump of {}", counted(dump)),
             Call::HexExport {
                 output_length,
                 bytes,
-            } => format!(
-                "HEX export, output length {}, {}",
-                output_length,
-                counted(bytes)
-            ),
+            } => format!("HEX export {}, {}", counted(bytes), lent(*output_length)),
             Call::HexImport {
                 output_length,
                 text,
-            } => format!(
-                "HEX import, output length {}, {} of text",
-                output_length,
-                counted(text)
-            ),
+            } => format!("HEX import {}, {}", counted(text), lent(*output_length)),
         }
     }
+}
+
+fn lent(output_length: u64) -> String {
+    format!("output length {}", output_length)
+}
+
+fn of_cells(cells: &[u8]) -> String {
+    format!("{} of cells", counted(cells))
 }
 
 fn numbers(shape: &Shape) -> String {

@@ -60,45 +60,46 @@ fn kinds(seed: u64) -> HashSet<String> {
     kinds
 }
 
+/// But for the accepted reads and writes, which tell their generation.
+const KINDS: [&str; 33] = [
+    "layout 0",
+    "layout 1",
+    "layout 2",
+    "read 1",
+    "read 3",
+    "read 4",
+    "write 1",
+    "write 3",
+    "write 4",
+    "write 5",
+    "write 6",
+    "export 0",
+    "export 1",
+    "export 3",
+    "export 9",
+    "export 10",
+    "record 0",
+    "record 1",
+    "record 3",
+    "record 4",
+    "end",
+    "stop 7",
+    "stop 8",
+    "hex 0",
+    "hex 8",
+    "hex 9",
+    "unhex 0",
+    "unhex 9",
+    "unhex 20",
+    "unhex 21",
+    "unhex 22",
+    "unhex 23",
+    "unhex 24",
+];
+
 #[test]
 fn every_kind_of_answer_is_met() {
-    let mut due: Vec<String> = [
-        "layout 0",
-        "layout 1",
-        "layout 2",
-        "read 1",
-        "read 3",
-        "read 4",
-        "write 1",
-        "write 3",
-        "write 4",
-        "write 5",
-        "write 6",
-        "export 0",
-        "export 1",
-        "export 3",
-        "export 9",
-        "export 10",
-        "record 0",
-        "record 1",
-        "record 3",
-        "record 4",
-        "end",
-        "stop 7",
-        "stop 8",
-        "hex 0",
-        "hex 8",
-        "hex 9",
-        "unhex 0",
-        "unhex 9",
-        "unhex 20",
-        "unhex 21",
-        "unhex 22",
-        "unhex 23",
-        "unhex 24",
-    ]
-    .map(String::from)
-    .to_vec();
+    let mut due: Vec<String> = KINDS.map(String::from).to_vec();
     due.extend((1..=16).map(|generation| format!("read 0 {}", generation)));
     due.extend((1..=16).map(|generation| format!("write 0 {}", generation)));
     let met = kinds(2);

@@ -140,17 +140,12 @@ impl Maker {
     }
 
     fn push_line(&mut self, record: &[u8], style: Style, is_returned: bool, text: &mut Vec<u8>) {
+        let digits: String = record.iter().map(|byte| format!("{:02X}", byte)).collect();
         text.push(b':');
-        for byte in record {
-            let digits = format!("{:02X}", byte);
-            for digit in digits.bytes() {
-                let is_lower = self.chance.index(2) < style.lower_of_two;
-                text.push(if is_lower {
-                    digit.to_ascii_lowercase()
-                } else {
-                    digit
-                });
-            }
+        for digit in digits.bytes() {
+            let is_lower = self.chance.index(2) < style.lower_of_two;
+            let lower = digit.to_ascii_lowercase();
+            text.push(if is_lower { lower } else { digit });
         }
         text.extend(if is_returned { "\r\n" } else { "\n" }.bytes());
     }
