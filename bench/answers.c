@@ -112,7 +112,7 @@ static size_t get_output(void)
     return count;
 }
 
-static void put_stored(const char *word, struct gorvlime_exported e, size_t output_count)
+static void put_stored(const char *word, struct gorvlime_stored e, size_t output_count)
 {
     uint64_t numbers[] = {e.refusal, e.length};
     put_numbers(word, numbers, e.refusal == 0 ? 2 : 1);
@@ -126,7 +126,7 @@ static void answer_export(struct lent *lent)
     struct gorvlime_shape f = get_shape();
     size_t output_count = get_output();
     get_bytes(lent);
-    struct gorvlime_exported e = CALL(export)(serial, f.m, f.t, f.v, lent->bytes, lent->count, output, output_count);
+    struct gorvlime_stored e = CALL(export)(serial, f.m, f.t, f.v, lent->bytes, lent->count, output, output_count);
     put_stored("export", e, output_count);
 }
 

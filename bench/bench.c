@@ -29,10 +29,10 @@ struct calls {
     struct gorvlime_counts (*layout)(struct gorvlime_shape, uint64_t);
     struct gorvlime_reading (*read)(struct gorvlime_shape, const uint8_t *, size_t);
     struct gorvlime_writing (*write)(struct gorvlime_shape, uint8_t *, size_t, uint64_t);
-    struct gorvlime_exported (*export)(uint64_t, uint64_t, uint64_t, uint64_t, const uint8_t *, size_t, uint8_t *, size_t);
+    struct gorvlime_stored (*export)(uint64_t, uint64_t, uint64_t, uint64_t, const uint8_t *, size_t, uint8_t *, size_t);
     struct gorvlime_walked (*walk)(const uint8_t *, size_t, size_t, uint64_t *, size_t);
-    struct gorvlime_exported (*hex_export)(const uint8_t *, size_t, uint8_t *, size_t);
-    struct gorvlime_exported (*hex_import)(const uint8_t *, size_t, uint8_t *, size_t);
+    struct gorvlime_stored (*hex_export)(const uint8_t *, size_t, uint8_t *, size_t);
+    struct gorvlime_stored (*hex_import)(const uint8_t *, size_t, uint8_t *, size_t);
 };
 
 static const struct calls plain = {

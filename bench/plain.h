@@ -10,15 +10,15 @@ struct gorvlime_reading plain_read(struct gorvlime_shape shape, const uint8_t *c
 
 struct gorvlime_writing plain_write(struct gorvlime_shape shape, uint8_t *cells, size_t cells_count, uint64_t number);
 
-struct gorvlime_exported plain_export(uint64_t serial, uint64_t m, uint64_t t, uint64_t v, const uint8_t *cells,
+struct gorvlime_stored plain_export(uint64_t serial, uint64_t m, uint64_t t, uint64_t v, const uint8_t *cells,
                                       size_t cells_count, uint8_t *out, size_t out_count);
 
 struct gorvlime_found plain_step(const uint8_t *dump, size_t dump_count, size_t at);
 
 struct gorvlime_walked plain_walk(const uint8_t *dump, size_t dump_count, size_t at, uint64_t *rows, size_t rows_count);
 
-struct gorvlime_exported plain_hex_export(const uint8_t *bytes, size_t bytes_count, uint8_t *out, size_t out_count);
+struct gorvlime_stored plain_hex_export(const uint8_t *bytes, size_t bytes_count, uint8_t *out, size_t out_count);
 
-struct gorvlime_exported plain_hex_import(const uint8_t *text, size_t text_count, uint8_t *out, size_t out_count);
+struct gorvlime_stored plain_hex_import(const uint8_t *text, size_t text_count, uint8_t *out, size_t out_count);
 
 #endif

@@ -24,27 +24,27 @@ static size_t put_number(uint8_t *out, uint64_t number)
     return length;
 }
 
-struct gorvlime_exported plain_export(uint64_t serial, uint64_t m, uint64_t t, uint64_t v, const uint8_t *cells,
+struct gorvlime_stored plain_export(uint64_t serial, uint64_t m, uint64_t t, uint64_t v, const uint8_t *cells,
                                       size_t cells_count, uint8_t *out, size_t out_count)
 {
     struct field f;
     uint8_t head[NUMBERS_OF_A_RECORD * LONGEST_NUMBER];
     if (serial > MOST_SERIAL)
-        return (struct gorvlime_exported){.refusal = GORVLIME_SERIAL};
+        return (struct gorvlime_stored){.refusal = GORVLIME_SERIAL};
     plain_lay_out(&f, (struct gorvlime_shape){.m = m, .t = t, .v = v});
     uint64_t refusal = plain_misfit(&f, cells, cells_count);
     if (refusal != GORVLIME_ACCEPTED)
-        return (struct gorvlime_exported){.refusal = refusal};
+        return (struct gorvlime_stored){.refusal = refusal};
     size_t length = put_number(head, serial);
     length += put_number(head + length, m);
     length += put_number(head + length, t);
     length += put_number(head + length, v);
     length += put_number(head + length, cells_count);
     if (out_count < length + cells_count)
-        return (struct gorvlime_exported){.refusal = GORVLIME_OUTPUT};
+        return (struct gorvlime_stored){.refusal = GORVLIME_OUTPUT};
     memcpy(out, head, length);
     memcpy(out + length, cells, cells_count);
-    return (struct gorvlime_exported){.length = length + cells_count};
+    return (struct gorvlime_stored){.length = length + cells_count};
 }
 
 /* Reads the number at *at and moves *at behind it. False: cut off, over nine bytes or not in shortest form. */

@@ -38,20 +38,20 @@ static uint8_t *put_data_line(uint8_t *out, const uint8_t *data, size_t count, s
     return out;
 }
 
-struct gorvlime_exported plain_hex_export(const uint8_t *bytes, size_t bytes_count, uint8_t *out, size_t out_count)
+struct gorvlime_stored plain_hex_export(const uint8_t *bytes, size_t bytes_count, uint8_t *out, size_t out_count)
 {
     if (bytes_count > MOST_BYTES)
-        return (struct gorvlime_exported){.refusal = GORVLIME_TOO_LONG};
+        return (struct gorvlime_stored){.refusal = GORVLIME_TOO_LONG};
     size_t lines = (bytes_count + DATA_ON_A_LINE - 1) / DATA_ON_A_LINE;
     size_t length = (lines + 1) * BARE_LINE + 2 * bytes_count;
     if (out_count < length)
-        return (struct gorvlime_exported){.refusal = GORVLIME_OUTPUT};
+        return (struct gorvlime_stored){.refusal = GORVLIME_OUTPUT};
     for (size_t at = 0; at < bytes_count; at += DATA_ON_A_LINE) {
         size_t left = bytes_count - at;
         out = put_data_line(out, bytes + at, left < DATA_ON_A_LINE ? left : DATA_ON_A_LINE, at);
     }
     memcpy(out, end_line, BARE_LINE);
-    return (struct gorvlime_exported){.length = length};
+    return (struct gorvlime_stored){.length = length};
 }
 
 /* NO_DIGIT for another character. */
@@ -112,18 +112,18 @@ static unsigned test_line(const uint8_t *text, size_t text_count, size_t bytes, 
 }
 
 /* The count of bytes in a text, or why it is refused. */
-static struct gorvlime_exported test_text(const uint8_t *text, size_t text_count)
+static struct gorvlime_stored test_text(const uint8_t *text, size_t text_count)
 {
     size_t bytes = 0, at = 0;
     struct line l;
     do {
         unsigned refusal = test_line(text + at, text_count - at, bytes, &l);
         if (refusal != GORVLIME_ACCEPTED)
-            return (struct gorvlime_exported){.refusal = refusal};
+            return (struct gorvlime_stored){.refusal = refusal};
         bytes += l.count;
         at += l.length;
     } while (l.type != TYPE_END);
-    return (struct gorvlime_exported){.length = bytes};
+    return (struct gorvlime_stored){.length = bytes};
 }
 
 /* The value of a character that is a digit: letters are 0x40 or more, and their low half starts at 1. */
@@ -147,13 +147,13 @@ static const uint8_t *store_line(const uint8_t *text, unsigned count, uint8_t *o
     return text + (*text == '\r' ? 2 : 1);
 }
 
-struct gorvlime_exported plain_hex_import(const uint8_t *text, size_t text_count, uint8_t *out, size_t out_count)
+struct gorvlime_stored plain_hex_import(const uint8_t *text, size_t text_count, uint8_t *out, size_t out_count)
 {
-    struct gorvlime_exported imported = test_text(text, text_count);
+    struct gorvlime_stored imported = test_text(text, text_count);
     if (imported.refusal != GORVLIME_ACCEPTED)
         return imported;
     if (out_count < imported.length)
-        return (struct gorvlime_exported){.refusal = GORVLIME_OUTPUT};
+        return (struct gorvlime_stored){.refusal = GORVLIME_OUTPUT};
     for (size_t stored = 0; stored < imported.length; ) {
         unsigned count = sure_byte_of(text + 1);
         text = store_line(text, count, out + stored);

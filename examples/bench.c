@@ -38,7 +38,7 @@ static int fail(const char *why)
 }
 
 /* Nothing is printed where the call was refused, since nothing was stored. */
-static int put(struct gorvlime_exported stored, const uint8_t *out)
+static int put(struct gorvlime_stored stored, const uint8_t *out)
 {
     if (stored.refusal != GORVLIME_ACCEPTED) {
         fprintf(stderr, "bench: refusal %" PRIu64 ": %s\n", stored.refusal, words_for(stored.refusal));

@@ -56,7 +56,7 @@ static void read_counter(void)
 static void export_counter(uint64_t serial)
 {
     uint8_t record[85];   /* no record is longer */
-    struct gorvlime_exported exported = gorvlime_export(serial, shape.m, shape.t, shape.v, cells, sizeof cells,
+    struct gorvlime_stored exported = gorvlime_export(serial, shape.m, shape.t, shape.v, cells, sizeof cells,
                                                         record, sizeof record);
     if (exported.refusal != GORVLIME_ACCEPTED) {
         printf("no record, refusal %" PRIu64 "\n", exported.refusal);

@@ -117,9 +117,9 @@ struct gorvlime_writing gorvlime_write(struct gorvlime_shape shape, uint8_t *cel
  * the top bit set on all but the last.
  * Refusals: 10, 1, 2, 3, 9.
  */
-struct gorvlime_exported { uint64_t refusal, length; };
+struct gorvlime_stored { uint64_t refusal, length; };
 
-struct gorvlime_exported gorvlime_export(uint64_t serial, uint64_t m, uint64_t t, uint64_t v, const uint8_t *cells,
+struct gorvlime_stored gorvlime_export(uint64_t serial, uint64_t m, uint64_t t, uint64_t v, const uint8_t *cells,
                                          size_t cells_count, uint8_t *out, size_t out_count);
 
 /*
@@ -179,7 +179,7 @@ struct gorvlime_walked gorvlime_walk(const uint8_t *dump, size_t dump_count, siz
  * :00000001FF. Its digits are upper case and each line ends in a line feed.
  * Refusals: 8, 9.
  */
-struct gorvlime_exported gorvlime_hex_export(const uint8_t *bytes, size_t bytes_count, uint8_t *out, size_t out_count);
+struct gorvlime_stored gorvlime_hex_export(const uint8_t *bytes, size_t bytes_count, uint8_t *out, size_t out_count);
 
 /*
  * The bytes of an Intel HEX text.
@@ -193,7 +193,7 @@ struct gorvlime_exported gorvlime_hex_export(const uint8_t *bytes, size_t bytes_
  * The last line is the end line :00000001FF, and nothing is behind it.
  * Refusals: at each line 23 (there is none), 20, 21, 22, 24; behind the end line 24; then 9.
  */
-struct gorvlime_exported gorvlime_hex_import(const uint8_t *text, size_t text_count, uint8_t *out, size_t out_count);
+struct gorvlime_stored gorvlime_hex_import(const uint8_t *text, size_t text_count, uint8_t *out, size_t out_count);
 
 #ifdef __cplusplus
 }

@@ -55,7 +55,7 @@ static void check_exports(void)
         uint64_t serial = exports[i].serial, m = exports[i].m, t = exports[i].t, v = exports[i].v;
         calling("export %" PRIu64 " m %" PRIu64 " t %" PRIu64 " v %" PRIu64 " cells %s into %zu", serial, m, t, v,
                 exports[i].cells, out.count);
-        struct gorvlime_exported e = CALL(export)(serial, m, t, v, LENT(cells), LENT(out));
+        struct gorvlime_stored e = CALL(export)(serial, m, t, v, LENT(cells), LENT(out));
         same("refusal", e.refusal, exports[i].refusal);
         same("length", e.length, exports[i].length);
         holds(&cells, exports[i].cells);
@@ -68,7 +68,7 @@ static void check_longest_record(void)
 {
     struct lent cells = lend_room(64), out = lend_room(100);
     calling("export of the largest field");
-    struct gorvlime_exported e = CALL(export)(MOST_SERIAL, 4, 16, RANGE, LENT(cells), LENT(out));
+    struct gorvlime_stored e = CALL(export)(MOST_SERIAL, 4, 16, RANGE, LENT(cells), LENT(out));
     same("refusal", e.refusal, 0);
     same("length", e.length, 85);
 }

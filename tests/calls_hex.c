@@ -52,7 +52,7 @@ static void check_exports(void)
     for (size_t i = 0; i < sizeof exports / sizeof exports[0]; i++) {
         struct lent given = lend(exports[i].bytes), out = lend_room(exports[i].room);
         calling("HEX export of %s into %zu", exports[i].bytes, exports[i].room);
-        struct gorvlime_exported e = CALL(hex_export)(LENT(given), LENT(out));
+        struct gorvlime_stored e = CALL(hex_export)(LENT(given), LENT(out));
         same("refusal", e.refusal, exports[i].refusal);
         same("length", e.length, exports[i].length);
         holds_text(&out, exports[i].out);
@@ -137,7 +137,7 @@ static void check_imports(void)
     for (size_t i = 0; i < sizeof imports / sizeof imports[0]; i++) {
         struct lent given = lend_text(imports[i].text), out = lend_room(imports[i].room);
         calling("HEX import %zu of the table, %s", i, imports[i].text);
-        struct gorvlime_exported e = CALL(hex_import)(LENT(given), LENT(out));
+        struct gorvlime_stored e = CALL(hex_import)(LENT(given), LENT(out));
         same("refusal", e.refusal, imports[i].refusal);
         same("length", e.length, imports[i].length);
         holds(&out, imports[i].out);
@@ -177,7 +177,7 @@ static void stay(const uint8_t *from, size_t count)
     same("bytes that stay", untouched, count + MARGIN);
 }
 
-static void check_answer(struct gorvlime_exported e, uint64_t refusal, uint64_t length)
+static void check_answer(struct gorvlime_stored e, uint64_t refusal, uint64_t length)
 {
     same("refusal", e.refusal, refusal);
     same("length", e.length, length);

@@ -1,15 +1,15 @@
 -- What the functions of this program need in order to stay within what they are lent.
 use Prim.Native.Nat.{ℕ, _≤_}
 use mathlib.Core.List.{List}
-use lib.ListN.{length, getD}
+use lib.ListN.{length}
 use Rattle.answers.specs.declared.input.Window.{Window}
 use Rattle.answers.specs.declared.protocol.Call.{Call}
 
--- the most bytes of a call: an operation, an export's five numbers, a count and 65,537 bytes
+-- the most bytes of a call: an operation, an export's four numbers and its output's length, a count and 65,537 bytes
 abbrev pub callMost : ℕ
 callMost = 65586
 
--- the most bytes that an export asks for
+-- the most bytes of an output that a call asks for
 abbrev pub outputMost : ℕ
 outputMost = 1024
 
@@ -29,4 +29,4 @@ Held w buffer = (w .at ≤ w .end) × (w .end ≤ length buffer)
 pub record Within (c : Call) (bytes : List ℕ) : Type 0 where
   pub forward : c .start ≤ c .end
   pub inside : c .end ≤ length bytes
-  pub limited : getD (c .numbers) 4 0 ≤ outputMost
+  pub limited : c .room ≤ outputMost

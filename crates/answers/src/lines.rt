@@ -1,6 +1,5 @@
 // The lines that answer a call.
 use crate::output;
-use crate::protocol;
 use crate::protocol::Broken;
 use code::Shape;
 use field::Reading;
@@ -9,7 +8,7 @@ use storing::Made;
 ghost use Prim.Native.Nat.{_+_, _*_, _≤_};
 ghost use lib.ListN.{length};
 ghost use Rattle.dump.specs.Answers.{rowLength};
-ghost use Rattle.answers.specs.Bounds.{outputMost, Fits};
+ghost use Rattle.answers.specs.Bounds.{pieceMost, Fits};
 
 // The numbers of a row before the reply to reading the record's cells.
 const NUMBERS: usize = 6;
@@ -76,17 +75,26 @@ pub fn put_write(out: &mut [u8], at: usize, s: Shape, number: u64, cells: &mut [
     output::put_hex(out, place, cells)
 }
 
-fn put_exported(out: &mut [u8], at: usize, answer: Made) -> usize
-    requires { ⌜ Fits at (now out) ⌝ }
+fn put_length(out: &mut [u8], at: usize, word: &[u8], answer: Made) -> usize
+    requires { ⌜ Fits at (now out) × (length (now word) ≤ pieceMost) ⌝ }
     ensures { λ r. ⌜ Fits r (now (out .exit)) ⌝ }
 {
     match answer {
-        Made::Stored(count) => output::put_numbers(out, at, b"export", &[0, count as u64]),
-        Made::Refused(refusal) => output::put_numbers(out, at, b"export", &[refusal]),
+        Made::Stored(count) => output::put_numbers(out, at, word, &[0, count as u64]),
+        Made::Refused(refusal) => output::put_numbers(out, at, word, &[refusal]),
     }
 }
 
-fn put_export_into(
+// What a call that stores answers, and the output that it was lent.
+fn put_made(out: &mut [u8], at: usize, word: &[u8], answer: Made, lent: &[u8]) -> usize
+    requires { ⌜ Fits at (now out) × (length (now word) ≤ pieceMost) ⌝ }
+    ensures { λ r. ⌜ Fits r (now (out .exit)) ⌝ }
+{
+    let place = put_length(out, at, word, answer);
+    output::put_hex(out, place, lent)
+}
+
+pub fn put_export(
     out: &mut [u8],
     at: usize,
     serial: u64,
@@ -95,32 +103,28 @@ fn put_export_into(
     v: u64,
     cells: &[u8],
     lent: &mut [u8],
-    room: usize,
 ) -> usize
-    requires { ⌜ Fits at (now out) × (room ≤ length (now lent)) ⌝ }
+    requires { ⌜ Fits at (now out) ⌝ }
     ensures { λ r. ⌜ Fits r (now (out .exit)) ⌝ }
 {
-    let answer = gorvlime::export(serial, m, t, v, cells, &mut lent[..room]);
-    let place = put_exported(out, at, answer);
-    output::put_hex(out, place, &lent[..room])
+    let answer = gorvlime::export(serial, m, t, v, cells, lent);
+    put_made(out, at, b"export", answer, lent)
 }
 
-// The output is lent filled with A5.
-pub fn put_export(
-    out: &mut [u8],
-    at: usize,
-    serial: u64,
-    m: u64,
-    t: u64,
-    v: u64,
-    room: usize,
-    cells: &[u8],
-) -> usize
-    requires { ⌜ Fits at (now out) × (room ≤ outputMost) ⌝ }
+pub fn put_hex_export(out: &mut [u8], at: usize, bytes: &[u8], lent: &mut [u8]) -> usize
+    requires { ⌜ Fits at (now out) ⌝ }
     ensures { λ r. ⌜ Fits r (now (out .exit)) ⌝ }
 {
-    let mut lent = [0xa5u8; protocol::OUTPUT_MOST];
-    put_export_into(out, at, serial, m, t, v, cells, &mut lent, room)
+    let answer = gorvlime::hex_export(bytes, lent);
+    put_made(out, at, b"hex", answer, lent)
+}
+
+pub fn put_hex_import(out: &mut [u8], at: usize, text: &[u8], lent: &mut [u8]) -> usize
+    requires { ⌜ Fits at (now out) ⌝ }
+    ensures { λ r. ⌜ Fits r (now (out .exit)) ⌝ }
+{
+    let answer = gorvlime::hex_import(text, lent);
+    put_made(out, at, b"unhex", answer, lent)
 }
 
 // A line for each record, and one for how the walk ends.

@@ -7,6 +7,8 @@
 //     4 export   serial m t v outlen, cells     export 0 length OUT | export N OUT
 //     5 walk     dump                           record serial m t v start length 0 generation number left, or
 //                                               record serial m t v start length N, for each; end | stop 7 offset | stop 8
+//     6 HEX out  outlen, bytes                  hex 0 length OUT | hex N OUT
+//     7 HEX in   outlen, text                   unhex 0 length OUT | unhex N OUT
 //
 // CELLS and OUT are the lent bytes afterwards in hex, left out where there are none. A stream that can't be followed ends with `cut off`, `no such call` or
 // `too long`.
@@ -21,7 +23,7 @@ use protocol::Kind;
 ghost use Prim.Native.Nat.{_≤_};
 ghost use lib.ListN.{length};
 ghost use Rattle.dump.specs.Answers.{rowLength};
-ghost use Rattle.answers.specs.Bounds.{callMost, Fits, Held, Within};
+ghost use Rattle.answers.specs.Bounds.{callMost, outputMost, Fits, Held, Within};
 
 fn main() {
     let mut buffer = [0u8; 81920];
@@ -74,7 +76,9 @@ fn answer_next(buffer: &mut [u8], s: State, rows: &mut [u64], out: &mut [u8]) ->
         };
     }
     let call = protocol::read_call(&buffer[at..end]);
-    let place = answer(call, &mut buffer[at..end], rows, out, s.place);
+    // What a call is lent for its output is filled with A5.
+    let mut lent = [0xa5u8; protocol::OUTPUT_MOST];
+    let place = answer(call, &mut buffer[at..end], rows, &mut lent, out, s.place);
     let rest = Window {
         at: at + call.end,
         end,
@@ -87,8 +91,15 @@ fn answer_next(buffer: &mut [u8], s: State, rows: &mut [u64], out: &mut [u8]) ->
     }
 }
 
-fn answer(call: Call, bytes: &mut [u8], rows: &mut [u64], out: &mut [u8], at: usize) -> usize
-    requires { ⌜ Within call (now bytes) × (rowLength ≤ length (now rows)) × Fits at (now out) ⌝ }
+fn answer(
+    call: Call,
+    bytes: &mut [u8],
+    rows: &mut [u64],
+    lent: &mut [u8],
+    out: &mut [u8],
+    at: usize,
+) -> usize
+    requires { ⌜ Within call (now bytes) × (rowLength ≤ length (now rows)) × (outputMost ≤ length (now lent)) × Fits at (now out) ⌝ }
     ensures { λ r. ⌜ Fits r (now (out .exit)) ⌝ }
 {
     let kind = call.kind;
@@ -96,15 +107,18 @@ fn answer(call: Call, bytes: &mut [u8], rows: &mut [u64], out: &mut [u8], at: us
     let n = call.numbers;
     let start = call.start;
     let end = call.end;
+    let room = call.room;
     match kind {
         Kind::Layout => lines::put_layout(out, at, s, n[3]),
         Kind::Read => lines::put_read(out, at, s, &bytes[start..end]),
         Kind::Write => lines::put_write(out, at, s, n[3], &mut bytes[start..end]),
         Kind::Export => {
-            let room = n[4] as usize;
-            lines::put_export(out, at, n[0], n[1], n[2], n[3], room, &bytes[start..end])
+            let cells = &bytes[start..end];
+            lines::put_export(out, at, n[0], n[1], n[2], n[3], cells, &mut lent[0..room])
         }
         Kind::Walk => lines::put_walk(out, at, &bytes[start..end], rows),
+        Kind::HexExport => lines::put_hex_export(out, at, &bytes[start..end], &mut lent[0..room]),
+        Kind::HexImport => lines::put_hex_import(out, at, &bytes[start..end], &mut lent[0..room]),
         Kind::Broken(why) => lines::put_broken(out, at, why),
     }
 }

@@ -24,13 +24,17 @@ pub enum Kind {
     Write,
     Export,
     Walk,
+    HexExport,
+    HexImport,
     Broken(Broken),
 }
 
-// The numbers of a call with 0 behind them, its bytes from `start` to `end`, and there its end; 0 for what is no call.
+// The numbers of a call with 0 behind them, the length of the output that it asks for, its bytes from `start` to `end`, and there its end; 0 for what is no
+// call.
 pub struct Call {
     pub kind: Kind,
-    pub numbers: [u64; 5],
+    pub numbers: [u64; 4],
+    pub room: usize,
     pub start: usize,
     pub end: usize,
 }
@@ -48,13 +52,14 @@ pub fn shape_of(call: Call) -> Shape
 }
 
 fn break_off(why: Broken) -> Call
-    ensures { λ r. ⌜ (r .start ≡ 0) × (r .end ≡ 0) × (getD (r .numbers) 4 0 ≡ 0) ⌝ }
+    ensures { λ r. ⌜ (r .start ≡ 0) × (r .end ≡ 0) × (r .room ≡ 0) ⌝ }
 {
     let kind = Kind::Broken(why);
-    let numbers = [0u64; 5];
+    let numbers = [0u64; 4];
     Call {
         kind,
         numbers,
+        room: 0,
         start: 0,
         end: 0,
     }
@@ -76,29 +81,54 @@ fn number_at(s: &[u8], at: usize) -> u64
     x
 }
 
-// The call with so many numbers and no bytes. Only an export has a fifth number, the length of its output.
+// The call with so many numbers, no output and no bytes.
 fn read_numbers(s: &[u8], kind: Kind, count: usize) -> Call
-    requires { ⌜ count ≤ 5 ⌝ }
+    requires { ⌜ count ≤ 4 ⌝ }
     ensures { λ r. ⌜ Within r (now (s .entry)) ⌝ }
 {
     let end = 1 + 8 * count;
     if s.len() < end {
         return break_off(Broken::CutOff);
     }
-    let mut numbers = [0u64; 5];
+    let mut numbers = [0u64; 4];
     let mut i = 0;
     while i < count {
         numbers[i] = number_at(s, 1 + 8 * i);
         i += 1;
     }
-    if (OUTPUT_MOST as u64) < numbers[4] {
-        return break_off(Broken::TooLong);
-    }
     Call {
         kind,
         numbers,
+        room: 0,
         start: end,
         end,
+    }
+}
+
+// The call with the length of its output behind its numbers.
+fn read_room(s: &[u8], call: Call) -> Call
+    requires { ⌜ Within call (now s) ⌝ }
+    ensures { λ r. ⌜ Within r (now (s .entry)) ⌝ }
+{
+    let at = call.end;
+    if at == 0 {
+        return call;
+    }
+    if s.len() - at < 8 {
+        return break_off(Broken::CutOff);
+    }
+    let room = number_at(s, at);
+    if (OUTPUT_MOST as u64) < room {
+        return break_off(Broken::TooLong);
+    }
+    let kind = call.kind;
+    let numbers = call.numbers;
+    Call {
+        kind,
+        numbers,
+        room: room as usize,
+        start: at + 8,
+        end: at + 8,
     }
 }
 
@@ -128,6 +158,7 @@ fn read_bytes(s: &[u8], call: Call) -> Call
     Call {
         kind,
         numbers,
+        room: call.room,
         start,
         end,
     }
@@ -142,8 +173,10 @@ pub fn read_call(s: &[u8]) -> Call
         1 => read_numbers(s, Kind::Layout, 4),
         2 => read_bytes(s, read_numbers(s, Kind::Read, 3)),
         3 => read_bytes(s, read_numbers(s, Kind::Write, 4)),
-        4 => read_bytes(s, read_numbers(s, Kind::Export, 5)),
+        4 => read_bytes(s, read_room(s, read_numbers(s, Kind::Export, 4))),
         5 => read_bytes(s, read_numbers(s, Kind::Walk, 0)),
+        6 => read_bytes(s, read_room(s, read_numbers(s, Kind::HexExport, 0))),
+        7 => read_bytes(s, read_room(s, read_numbers(s, Kind::HexImport, 0))),
         _ => break_off(Broken::NoSuchCall),
     }
 }

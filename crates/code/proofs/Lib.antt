@@ -30,3 +30,8 @@ pub mod Walk
 pub mod ExportCall
 pub mod Steps
 pub mod Closing
+pub mod HexExamples
+pub mod HexLines
+pub mod HexText
+pub mod HexImport
+pub mod HexCalls

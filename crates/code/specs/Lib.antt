@@ -9,3 +9,5 @@ pub mod Field
 pub mod Run
 pub mod Calls
 pub mod Dump
+pub mod Hex
+pub mod HexLine

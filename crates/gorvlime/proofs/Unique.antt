@@ -1,6 +1,6 @@
 -- The promises of the calls for C leave no choice: two answers that one of them allows are equal, and so is what they leave in lent memory. Those of
 -- `gorvlime_layout` and `gorvlime_walk` are `unique` of layout/proofs/Unique and `unique-walk` of dump/proofs/Unique; those of the calls by their Rattle names
--- stand there and in field/proofs/Unique, but for `part`.
+-- stand there, in field/proofs/Unique and in hex/proofs/Unique, but for `part`.
 use Prim.Native.Nat.{ℕ}
 use mathlib.Core.Path.{_≡_, sym, ap, _∙_}
 use mathlib.Core.List.{List}
@@ -8,6 +8,7 @@ use lib.ListN.{getD, take, drop}
 use Rattle.code.specs.declared.Shape.{Shape}
 use Rattle.code.specs.Calls.{filled, readReply, writeReply, writeLeaves}
 use Rattle.code.specs.Dump.{exportReply, exportLeaves, stepReply}
+use Rattle.code.specs.Hex.{hexExportReply, hexExportLeaves, hexImportReply, hexImportLeaves}
 use Rattle.gorvlime.specs.Fields.{readingFields, writingFields, madeFields, stepFields, foundFields}
 use Rattle.gorvlime.specs.declared.c.ReadAnswer.{ReadAnswer}
 use Rattle.gorvlime.specs.declared.c.WriteAnswer.{WriteAnswer}
@@ -60,6 +61,16 @@ pub unique-export : (serial m t v : ℕ) (cells out after after′ : List ℕ) (
     madeFields r ≡ filled 2 (exportReply serial m t v cells out) → after ≡ exportLeaves serial m t v cells out →
     madeFields r′ ≡ filled 2 (exportReply serial m t v cells out) → after′ ≡ exportLeaves serial m t v cells out → (r ≡ r′) × (after ≡ after′)
 unique-export serial m t v cells out = made-alike (filled 2 (exportReply serial m t v cells out)) (exportLeaves serial m t v cells out)
+
+pub unique-hex-export : (bytes out after after′ : List ℕ) (r r′ : MadeAnswer) →
+    madeFields r ≡ filled 2 (hexExportReply bytes out) → after ≡ hexExportLeaves bytes out →
+    madeFields r′ ≡ filled 2 (hexExportReply bytes out) → after′ ≡ hexExportLeaves bytes out → (r ≡ r′) × (after ≡ after′)
+unique-hex-export bytes out = made-alike (filled 2 (hexExportReply bytes out)) (hexExportLeaves bytes out)
+
+pub unique-hex-import : (text out after after′ : List ℕ) (r r′ : MadeAnswer) →
+    madeFields r ≡ filled 2 (hexImportReply text out) → after ≡ hexImportLeaves text out →
+    madeFields r′ ≡ filled 2 (hexImportReply text out) → after′ ≡ hexImportLeaves text out → (r ≡ r′) × (after ≡ after′)
+unique-hex-import text out = made-alike (filled 2 (hexImportReply text out)) (hexImportLeaves text out)
 
 pub unique-step : (bytes : List ℕ) (at : ℕ) (r r′ : StepAnswer) →
     stepFields r ≡ foundFields (stepReply bytes at) → stepFields r′ ≡ foundFields (stepReply bytes at) → r ≡ r′

@@ -7,6 +7,7 @@ ghost use Rattle.field.specs.Answers.{readingOf, writingOf};
 ghost use Prim.Native.Nat.{_^_, _<_};
 ghost use lib.ListN.{replicate};
 ghost use Rattle.code.specs.Dump.{exportReply, exportLeaves, stepReply, walkReply, walkLeaves};
+ghost use Rattle.code.specs.Hex.{hexExportReply, hexExportLeaves, hexImportReply, hexImportLeaves};
 ghost use Rattle.dump.specs.Answers.{haltOf, stepOf, walkedOf};
 ghost use Rattle.storing.specs.Answers.{madeOf};
 ghost use Rattle.gorvlime.specs.Fields.{readingFields, writingFields, madeFields, stepFields, cellsEnd, foundFields};
@@ -216,4 +217,20 @@ pub extern "C" fn gorvlime_walk(bytes: &[u8], at: usize, rows: &mut [u64]) -> du
     ensures { λ r. ⌜ now (rows .exit) ≡ walkLeaves (now (bytes .entry)) at (now (rows .entry)) ⌝ }
 {
     crate::walk(bytes, at, rows)
+}
+
+#[no_mangle]
+pub extern "C" fn gorvlime_hex_export(bytes: &[u8], out: &mut [u8]) -> MadeAnswer
+    ensures { λ r. ⌜ madeFields r ≡ filled 2 (hexExportReply (now (bytes .entry)) (now (out .entry))) ⌝ }
+    ensures { λ r. ⌜ now (out .exit) ≡ hexExportLeaves (now (bytes .entry)) (now (out .entry)) ⌝ }
+{
+    flat_made(crate::hex_export(bytes, out))
+}
+
+#[no_mangle]
+pub extern "C" fn gorvlime_hex_import(text: &[u8], out: &mut [u8]) -> MadeAnswer
+    ensures { λ r. ⌜ madeFields r ≡ filled 2 (hexImportReply (now (text .entry)) (now (out .entry))) ⌝ }
+    ensures { λ r. ⌜ now (out .exit) ≡ hexImportLeaves (now (text .entry)) (now (out .entry)) ⌝ }
+{
+    flat_made(crate::hex_import(text, out))
 }

@@ -13,6 +13,7 @@ ghost use mathlib.Core.List.{_∷_};
 ghost use lib.ListN.{take, drop};
 ghost use Rattle.code.specs.Calls.{filled, layoutFields, layoutReply, readReply, writeReply, writeLeaves};
 ghost use Rattle.code.specs.Dump.{exportReply, exportLeaves, stepReply, walkReply, walkLeaves};
+ghost use Rattle.code.specs.Hex.{hexExportReply, hexExportLeaves, hexImportReply, hexImportLeaves};
 ghost use Rattle.field.specs.Answers.{readingOf, writingOf};
 ghost use Rattle.dump.specs.Answers.{stepOf, walkedOf};
 ghost use Rattle.storing.specs.Answers.{madeOf};
@@ -67,4 +68,20 @@ pub fn walk(bytes: &[u8], at: usize, rows: &mut [u64]) -> Walked
     ensures { λ r. ⌜ now (rows .exit) ≡ walkLeaves (now (bytes .entry)) at (now (rows .entry)) ⌝ }
 {
     dump::walk(bytes, at, rows)
+}
+
+// The Intel HEX text of bytes, at the front of the output.
+pub fn hex_export(bytes: &[u8], out: &mut [u8]) -> Made
+    ensures { λ r. ⌜ madeOf r ≡ hexExportReply (now (bytes .entry)) (now (out .entry)) ⌝ }
+    ensures { λ r. ⌜ now (out .exit) ≡ hexExportLeaves (now (bytes .entry)) (now (out .entry)) ⌝ }
+{
+    hex::hex_export(bytes, out)
+}
+
+// The bytes of an Intel HEX text, at the front of the output.
+pub fn hex_import(text: &[u8], out: &mut [u8]) -> Made
+    ensures { λ r. ⌜ madeOf r ≡ hexImportReply (now (text .entry)) (now (out .entry)) ⌝ }
+    ensures { λ r. ⌜ now (out .exit) ≡ hexImportLeaves (now (text .entry)) (now (out .entry)) ⌝ }
+{
+    hex::hex_import(text, out)
 }

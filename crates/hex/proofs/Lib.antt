@@ -1,0 +1,4 @@
+pub mod Outward
+pub mod Inward
+pub mod Checking
+pub mod Unique

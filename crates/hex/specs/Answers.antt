@@ -1,0 +1,48 @@
+-- What the steps of an import tell of a line and of a text.
+use Prim.Native.Nat.{ℕ, _+_, _*_, _≤_, _<_}
+use mathlib.Core.Path.{_≡_}
+use mathlib.Core.Bool.{true, false}
+use mathlib.Core.List.{List, [], _∷_}
+use lib.ListN.{length, drop}
+use Rattle.code.specs.Hex.{byteSum, lineBytes, dataCount, nextLine, allSpelled, lineRefusal, isEnd, faulty, gives, hexImport}
+use Rattle.code.specs.HexLine.{Shaped, lineSize}
+use Rattle.hex.specs.declared.Sum.{Sum}
+use Rattle.hex.specs.declared.Sum.the-variants.{Unspelled, Whole}
+use Rattle.hex.specs.declared.Line.{Line}
+use Rattle.hex.specs.declared.Shape.{Shape}
+use Rattle.hex.specs.declared.Shape.the-variants.{Bad, Good}
+use Rattle.hex.specs.declared.Judgement.{Judgement}
+use Rattle.hex.specs.declared.Judgement.the-variants.{Data, End, Faulty}
+use Rattle.hex.specs.declared.Checked.{Checked}
+use Rattle.hex.specs.declared.Checked.the-variants.{Wrong, Right}
+
+-- what bytes add up to, where digits spell them all
+abbrev pub Sums : List ℕ → Sum → Type 0
+Sums bytes Unspelled = allSpelled bytes ≡ false
+Sums bytes (Whole n) = (allSpelled bytes ≡ true) × (byteSum bytes ≡ n)
+
+-- a line of the right shape with its numbers
+pub record Measured (line : List ℕ) (l : Line) : Type 0 where
+  pub shaped : Shaped line
+  pub count-told : dataCount line ≡ l .count
+  pub sum-told : byteSum (lineBytes line) ≡ l .sum
+  pub size-told : lineSize line ≡ l .size
+
+abbrev pub Tells : List ℕ → Shape → Type 0
+Tells line Bad = Shaped line → ⊥
+Tells line (Good l) = Measured line l
+
+-- the characters that a line takes, and the text behind them
+abbrev pub Spans : List ℕ → ℕ → Type 0
+Spans line size = (nextLine line ≡ drop size line) × (0 < size) × (size ≤ length line)
+
+-- a line after n bytes: a data record with the count of its data, the end record, or its refusal
+abbrev pub Judges : ℕ → List ℕ → Judgement → Type 0
+Judges n line (Data count size) = (lineRefusal n line ≡ []) × (isEnd line ≡ false) × (dataCount line ≡ count) × Spans line size
+Judges n line (End size) = (lineRefusal n line ≡ []) × (isEnd line ≡ true) × Spans line size
+Judges n line (Faulty k) = lineRefusal n line ≡ k ∷ []
+
+-- a text's refusal, or the count of the bytes that it gives
+abbrev pub Counts : List ℕ → Checked → Type 0
+Counts text (Wrong k) = hexImport text ≡ faulty (k ∷ [])
+Counts text (Right n) = (bytes : List ℕ) × (hexImport text ≡ gives bytes) × (length bytes ≡ n)
