@@ -14,44 +14,44 @@ use Rattle.code.proofs.HexImport.{export-import, import-held}
 
 module _ (bytes out : List ℕ) where
   -- the reply, and the output afterwards
-  abbrev pub Exports : List ℕ → List ℕ → Type 0
-  Exports reply after = (reply ≡ hexExportReply bytes out) × (after ≡ hexExportLeaves bytes out)
+  abbrev pub HexExports : List ℕ → List ℕ → Type 0
+  HexExports reply after = (reply ≡ hexExportReply bytes out) × (after ≡ hexExportLeaves bytes out)
 
-  refuses : (k : ℕ) → hexExportRefusal bytes out ≡ k ∷ [] → Exports (k ∷ []) out
+  refuses : (k : ℕ) → hexExportRefusal bytes out ≡ k ∷ [] → HexExports (k ∷ []) out
   unfolding hexExportReply hexExportLeaves answer leaves
   refuses k q = (rw q, rw q)
 
-  pub export-many : 65536 < length bytes → Exports (8 ∷ []) out
+  pub export-many : 65536 < length bytes → HexExports (8 ∷ []) out
   unfolding hexExportRefusal refusal
   export-many h = refuses 8 (rw (lt-ltb 65536 (length bytes) h))
 
   module _ (few : length bytes ≤ 65536) where
-    pub export-short : length out < length (hexText bytes) → Exports (9 ∷ []) out
+    pub export-short : length out < length (hexText bytes) → HexExports (9 ∷ []) out
     unfolding hexExportRefusal refusal
     export-short h = refuses 9 (rw (le-ltb 65536 (length bytes) few, lt-ltb (length out) (length (hexText bytes)) h))
 
-    pub export-stored : length (hexText bytes) ≤ length out → Exports (0 ∷ length (hexText bytes) ∷ []) (hexText bytes ++ drop (length (hexText bytes)) out)
+    pub export-stored : length (hexText bytes) ≤ length out → HexExports (0 ∷ length (hexText bytes) ∷ []) (hexText bytes ++ drop (length (hexText bytes)) out)
     unfolding hexExportRefusal refusal hexExportReply hexExportLeaves answer leaves
     export-stored h =
         let z : hexExportRefusal bytes out ≡ [] = rw (le-ltb 65536 (length bytes) few, le-ltb (length out) (length (hexText bytes)) h) in
         (rw z, rw z)
 
 module _ (text out : List ℕ) where
-  abbrev pub Imports : List ℕ → List ℕ → Type 0
-  Imports reply after = (reply ≡ hexImportReply text out) × (after ≡ hexImportLeaves text out)
+  abbrev pub HexImports : List ℕ → List ℕ → Type 0
+  HexImports reply after = (reply ≡ hexImportReply text out) × (after ≡ hexImportLeaves text out)
 
-  pub import-faulty : (k : ℕ) → hexImport text ≡ faulty (k ∷ []) → Imports (k ∷ []) out
+  pub import-faulty : (k : ℕ) → hexImport text ≡ faulty (k ∷ []) → HexImports (k ∷ []) out
   unfolding importRefusal hexImportReply hexImportLeaves answer leaves
   import-faulty k h = (rw h, rw h)
 
   module _ (bytes : List ℕ) (h : hexImport text ≡ gives bytes) where
-    pub import-short : length out < length bytes → Imports (9 ∷ []) out
+    pub import-short : length out < length bytes → HexImports (9 ∷ []) out
     unfolding importRefusal refusal bytesOf hexImportReply hexImportLeaves answer leaves
     import-short l =
         let q = lt-ltb (length out) (length bytes) l in
         (rw (h, q), rw (h, q))
 
-    pub import-stored : length bytes ≤ length out → Imports (0 ∷ length bytes ∷ []) (bytes ++ drop (length bytes) out)
+    pub import-stored : length bytes ≤ length out → HexImports (0 ∷ length bytes ∷ []) (bytes ++ drop (length bytes) out)
     unfolding importRefusal refusal bytesOf hexImportReply hexImportLeaves answer leaves
     import-stored l =
         let q = le-ltb (length out) (length bytes) l in
@@ -59,7 +59,7 @@ module _ (text out : List ℕ) where
 
 -- "Export then import gives the same cells", of the calls: the text is what the export stored
 pub calls-round : (bytes out back : List ℕ) → Below 256 bytes → length bytes ≤ 65536 → length (hexText bytes) ≤ length out → length bytes ≤ length back →
-    Imports (take (getD (hexExportReply bytes out) 1 0) (hexExportLeaves bytes out)) back (0 ∷ length bytes ∷ []) (bytes ++ drop (length bytes) back)
+    HexImports (take (getD (hexExportReply bytes out) 1 0) (hexExportLeaves bytes out)) back (0 ∷ length bytes ∷ []) (bytes ++ drop (length bytes) back)
 calls-round bytes out back u few room fits =
     let x = export-stored bytes out few room in
     let stored : take (getD (hexExportReply bytes out) 1 0) (hexExportLeaves bytes out) ≡ hexText bytes =
@@ -68,7 +68,7 @@ calls-round bytes out back u few room fits =
 
 -- "import then export gives one standard file", of the calls: what an import stored is exported as the one text of these bytes
 pub calls-standard : (text bytes out back : List ℕ) → hexImport text ≡ gives bytes → length bytes ≤ length out → length (hexText bytes) ≤ length back →
-    Exports (take (getD (hexImportReply text out) 1 0) (hexImportLeaves text out)) back
+    HexExports (take (getD (hexImportReply text out) 1 0) (hexImportLeaves text out)) back
     (0 ∷ length (hexText bytes) ∷ []) (hexText bytes ++ drop (length (hexText bytes)) back)
 calls-standard text bytes out back h fits room =
     let x = import-stored text out bytes h fits in

@@ -124,8 +124,8 @@ last-address done b u small e =
     ∙ end-closes (done ++ (b ∷ []))
 
 -- bytes, and no more than there are addresses
-abbrev pub Held : List ℕ → Type 0
-Held bytes = Below 256 bytes × (length bytes ≤ 65536)
+abbrev pub Addressed : List ℕ → Type 0
+Addressed bytes = Below 256 bytes × (length bytes ≤ 65536)
 
 spelled-below : (bytes : List ℕ) → allSpelled bytes ≡ true → Below 256 bytes
 unfolding allSpelled
@@ -136,7 +136,7 @@ data-below : (line : List ℕ) → Shaped line → Below 256 (lineData line)
 unfolding lineData
 data-below line s = below-take 256 (dataCount line) (drop 4 (lineBytes line)) (below-drop 256 4 (lineBytes line) (spelled-below (lineBytes line) (s .bytes)))
 
-pub held-more : (done line : List ℕ) → lineRefusal (length done) line ≡ [] → Held done → Held (done ++ lineData line)
+pub held-more : (done line : List ℕ) → lineRefusal (length done) line ≡ [] → Addressed done → Addressed (done ++ lineData line)
 held-more done line q u =
     let p = line-passed (length done) line q in
     let few = passed-few (length done) line p (u .1) in
@@ -163,10 +163,10 @@ module _ (P : List ℕ → List ℕ → Type 0) (here : (bytes : List ℕ) → P
       go [] q false e ih = back done bytes text q (ih (sym (from-taken fuel done text q e) ∙ h))
 
 -- what a text gives are bytes, at most 65,536 of them
-pub import-held : (text bytes : List ℕ) → hexImport text ≡ gives bytes → Held bytes
+pub import-held : (text bytes : List ℕ) → hexImport text ≡ gives bytes → Addressed bytes
 unfolding hexImport
 import-held text bytes h =
-    from-keeps (λ done all. Held done → Held all) (λ all u. u) (λ done all line q f u. f (held-more done line q u)) (suc (length text)) [] text bytes h
+    from-keeps (λ done all. Addressed done → Addressed all) (λ all u. u) (λ done all line q f u. f (held-more done line q u)) (suc (length text)) [] text bytes h
     (tt, omega arith)
 
 prefix-less : (xs ys all : List ℕ) → take (length (xs ++ ys)) all ≡ xs ++ ys → take (length xs) all ≡ xs

@@ -9,7 +9,7 @@ use native.Mathlib.Nat.{mod-eq-of-lt}
 use lib.ListN.{length, getD, take, drop, length-take, length-drop}
 use lib.Seq.{getD-take, getD-drop, drop-drop}
 use lib.Dec.{leb, ltb, eqb}
-use borrow.Author.Tests.{lt-ltb, le-ltb, le-leb, eq-eqb, ne-eqb, ltb-true, ltb-false, leb-true, eqb-true, eqb-false, not-false}
+use borrow.Author.Tests.{lt-ltb, le-ltb, le-leb, lt-leb, eq-eqb, ne-eqb, ltb-true, ltb-false, leb-true, eqb-true, eqb-false, not-false}
 use Rattle.code.specs.Calls.{refusal}
 use Rattle.code.specs.Dump.{ascii}
 use Rattle.code.specs.Hex.{byteSum, endRecord, digitNumber, spelledByte, spelledBytes, lineBytes, dataCount, dataAddress, lineType, lineData}
@@ -88,6 +88,45 @@ spelled-small (b ∷ bytes) h (suc i) l = spelled-small bytes (both-true (ltb b 
 -- a data byte of a line whose bytes are all spelled
 pub data-small : (line : List ℕ) (i : ℕ) → allSpelled (lineBytes line) ≡ true → i < dataCount line → byteAt line (4 + i) < 256
 data-small line i h l = omega (arith, spelled-small (lineBytes line) h (4 + i) (omega (arith, bytes-length line)), byte-at line (4 + i) (omega arith))
+
+-- a byte that is spelled, by its digits, and a digit in one formula
+pub spelled-digits : (a b : ℕ) → spelledByte a b < 256 → (digitNumber a < 16) × (digitNumber b < 16) × (spelledByte a b ≡ 16 * digitNumber a + digitNumber b)
+unfolding spelledByte
+spelled-digits a b h = elim (le-or-lt 16 (digitNumber a)) [
+  | inl l ↦ let none = rw (le-ltb (digitNumber a) 16 l) at h in absurd (omega arith)
+  | inr l ↦ elim (le-or-lt 16 (digitNumber b)) [
+    | inl k ↦ let none = rw (lt-ltb (digitNumber a) 16 l, le-ltb (digitNumber b) 16 k) at h in absurd (omega arith)
+    | inr k ↦ (l, k, rw (lt-ltb (digitNumber a) 16 l, lt-ltb (digitNumber b) 16 k))
+  ]
+]
+
+pub digit-known : (c : ℕ) → digitNumber c < 16 → digitNumber c ≡ c % 16 + 9 * (c / 64)
+unfolding digitNumber
+digit-known c h = elim (le-or-lt c 57) [
+  | inl l ↦ elim (le-or-lt 48 c) [
+    | inl k ↦ rw (le-leb 48 c k, le-leb c 57 l) (omega arith)
+    | inr k ↦ let none = rw (lt-leb 48 c k, lt-leb 65 c (omega arith), lt-leb 97 c (omega arith)) at h in absurd (omega arith)
+  ]
+  | inr l ↦ letter (le-leb 48 c (omega arith)) (lt-leb c 57 l)
+]
+  where
+    small : leb 48 c ≡ true → leb c 57 ≡ false → leb 65 c ≡ true → leb c 70 ≡ false → 97 ≤ c → digitNumber c ≡ c % 16 + 9 * (c / 64)
+    small a b d e k = elim (le-or-lt c 102) [
+      | inl l ↦ rw (a, b, d, e, le-leb 97 c k, le-leb c 102 l) (omega arith)
+      | inr l ↦ let none = rw (a, b, d, e, le-leb 97 c k, lt-leb c 102 l) at h in absurd (omega arith)
+    ]
+
+    letter : leb 48 c ≡ true → leb c 57 ≡ false → digitNumber c ≡ c % 16 + 9 * (c / 64)
+    letter a b = elim (le-or-lt c 70) [
+      | inl l ↦ elim (le-or-lt 65 c) [
+        | inl k ↦ rw (a, b, le-leb 65 c k, le-leb c 70 l) (omega arith)
+        | inr k ↦ let none = rw (a, b, lt-leb 65 c k, lt-leb 97 c (omega arith)) at h in absurd (omega arith)
+      ]
+      | inr l ↦ elim (le-or-lt 97 c) [
+        | inr k ↦ let none = rw (a, b, le-leb 65 c (omega arith), lt-leb c 70 l, lt-leb 97 c k) at h in absurd (omega arith)
+        | inl k ↦ small a b (le-leb 65 c (omega arith)) (lt-leb c 70 l) k
+      ]
+    ]
 
 pub is-true : (b : Bool) → (b ≡ false → ⊥) → b ≡ true
 is-true true h = refl
@@ -188,7 +227,7 @@ not-end line i l n = is-false (isEnd line) (λ e. n (
     ∙ byte-at endRecord i (omega arith)))
 
 -- what is known of a line that passes every test
-pub record Passed (n : ℕ) (line : List ℕ) : Type 0 where
+pub record GoodLine (n : ℕ) (line : List ℕ) : Type 0 where
   pub shaped : Shaped line
   pub bare : ladenEnd line ≡ false
   pub summed : wrongSum line ≡ false
@@ -196,7 +235,7 @@ pub record Passed (n : ℕ) (line : List ℕ) : Type 0 where
   pub known : lineType line ≤ 1
 
 module _ (n : ℕ) (line : List ℕ) where
-  pub line-passed : lineRefusal n line ≡ [] → Passed n line
+  pub line-passed : lineRefusal n line ≡ [] → GoodLine n line
   unfolding lineRefusal
   line-passed h =
       let a = passed 23 [] (eqb (length line) 0) _ h in
@@ -284,7 +323,7 @@ module _ (line : List ℕ) where
       go false q c r = refl
 
 -- a line that passes leaves no more bytes than there are addresses
-pub passed-few : (n : ℕ) (line : List ℕ) → Passed n line → n ≤ 65536 → n + dataCount line ≤ 65536
+pub passed-few : (n : ℕ) (line : List ℕ) → GoodLine n line → n ≤ 65536 → n + dataCount line ≤ 65536
 passed-few n line p h = elim (le-or-lt 1 (lineType line)) [
   | inl k ↦ omega (arith, laden-what line (p .bare) (omega (arith, p .known)) .0)
   | inr k ↦ elim (le-or-lt 1 (dataCount line)) [ inl c ↦ placed-what line n (p .placed) (omega arith) c .1 | inr c ↦ omega arith ]
@@ -294,7 +333,7 @@ rounds : (x : ℕ) → x < 256 → suc x % 256 ≡ 0 → x ≡ 255
 rounds x h e = elim (le-or-lt 255 x) [ inl l ↦ omega arith | inr l ↦ let q : suc x < 256 = omega arith in absurd (omega (arith, mod-eq-of-lt q)) ]
 
 -- a line of type 01 that passes is the end record, in some letter case
-pub end-told : (n : ℕ) (line : List ℕ) → Passed n line → lineType line ≡ 1 → isEnd line ≡ true
+pub end-told : (n : ℕ) (line : List ℕ) → GoodLine n line → lineType line ≡ 1 → isEnd line ≡ true
 unfolding byteSum lineType dataCount dataAddress
 end-told n line p k =
     let bare = laden-what line (p .bare) k in

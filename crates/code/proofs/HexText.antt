@@ -1,4 +1,4 @@
--- Intel HEX: lines as they are written read back, and the length of a text.
+-- Intel HEX: lines as they are writtenLine read back, and the length of a text.
 use Prim.Native.Nat.{ℕ, zero, suc, _+_, _*_, _-_, _/_, _%_, _≤_, _<_}
 use mathlib.Core.Path.{_≡_, refl, ap}
 use mathlib.Core.Logic.{inl, inr}
@@ -59,26 +59,26 @@ below-append b (x ∷ xs) ys u w = (u .0, below-append b xs ys (u .1) w)
 
 -- a line of bytes whose first is five less than their count
 module _ (n : ℕ) (more rest : List ℕ) (u : Below 256 (n ∷ more)) (e : length more ≡ 4 + n) where
-  abbrev written : List ℕ
-  written = 58 ∷ (hexDigits (n ∷ more) ++ (10 ∷ rest))
+  abbrev writtenLine : List ℕ
+  writtenLine = 58 ∷ (hexDigits (n ∷ more) ++ (10 ∷ rest))
 
-  written-bytes : lineBytes written ≡ n ∷ more
+  written-bytes : lineBytes writtenLine ≡ n ∷ more
   unfolding lineBytes hexDigits
   written-bytes =
       let l : 5 + n ≡ length (n ∷ more) = omega arith in
       rw (byte-back n (u .0), l) (bytes-back (n ∷ more) (10 ∷ rest) u)
 
-  written-behind : behindBytes written ≡ 10 ∷ rest
+  written-behind : behindBytes writtenLine ≡ 10 ∷ rest
   unfolding behindBytes
   written-behind =
       let l : 1 + 2 * length (n ∷ more) ≡ suc (length (hexDigits (n ∷ more))) = omega (arith, digits-length (n ∷ more)) in
       rw (written-bytes, l) (drop-at (hexDigits (n ∷ more)) (10 ∷ rest) (length (hexDigits (n ∷ more))) refl)
 
-  written-next : nextLine written ≡ rest
+  written-next : nextLine writtenLine ≡ rest
   unfolding nextLine lineEnd
   written-next = rw written-behind
 
-  written-shaped : misshapen written ≡ false
+  written-shaped : misshapen writtenLine ≡ false
   unfolding misshapen lineEnd
   written-shaped = rw (written-behind, written-bytes, below-spelled (n ∷ more) u)
 

@@ -10,20 +10,20 @@ use borrow.Author.Tests.{eq-eqb, ne-eqb}
 use Rattle.code.specs.Hex.{dataCount, lineData, nextLine, lineRefusal, isEnd, gives, closed, hexImport, bytesOf}
 use Rattle.code.specs.HexLine.{lineSize, Shaped}
 use Rattle.code.proofs.HexLines.{line-passed, data-length, next-is, size-within}
-use Rattle.code.proofs.HexImport.{importOn, import-refused, import-ended, import-taken, Held, held-more, import-front, import-going}
-use Rattle.code.proofs.HexCalls.{Imports, import-short, import-stored}
+use Rattle.code.proofs.HexImport.{importOn, import-refused, import-ended, import-taken, Addressed, held-more, import-front, import-going}
+use Rattle.code.proofs.HexCalls.{HexImports, import-short, import-stored}
 use Rattle.storing.specs.Put.{Put}
 use Rattle.storing.proofs.Put.{put-none, put-then, put-pastes}
 use Rattle.hex.specs.Answers.{Judges, Counts}
-use Rattle.hex.specs.declared.Checked.the-variants.{Wrong, Right}
-use Rattle.hex.specs.declared.Judgement.the-variants.{Data, End, Faulty}
+use Rattle.hex.specs.declared.import.Checked.the-variants.{Wrong, Right}
+use Rattle.hex.specs.declared.import.Judgement.the-variants.{Data, End, Faulty}
 
 -- the lines before place `at` are taken, which gave `done` bytes
 pub record Checking (text : List ℕ) (at done : ℕ) : Type 0 where
   pub within : at ≤ length text
   pub bytes : List ℕ
   pub goes : hexImport text ≡ importOn bytes (drop at text)
-  pub held : Held bytes
+  pub held : Addressed bytes
   pub many : length bytes ≡ done
 
 pub checking-begin : (text : List ℕ) → Checking text 0 0
@@ -64,16 +64,16 @@ module _ {text : List ℕ} {at done : ℕ} (s : Checking text at done) where
       }
 
 -- the data of the lines before place `at` is stored
-pub record Loaded (before text after : List ℕ) (at done all : ℕ) : Type 0 where
+pub record DataStored (before text after : List ℕ) (at done all : ℕ) : Type 0 where
   pub checking : Checking text at done
   pub put : Put before after 0 (checking .bytes) done
   pub whole : Counts text (Right all)
 
-pub loaded-begin : (b text : List ℕ) (all : ℕ) → Counts text (Right all) → Loaded b text b 0 0 all
+pub loaded-begin : (b text : List ℕ) (all : ℕ) → Counts text (Right all) → DataStored b text b 0 0 all
 unfolding checking-begin
 loaded-begin b text all w = record { checking = checking-begin text; put = put-none b 0; whole = w }
 
-module _ {b text c : List ℕ} {at done all : ℕ} (s : Loaded b text c at done all) where
+module _ {b text c : List ℕ} {at done all : ℕ} (s : DataStored b text c at done all) where
   abbrev line : List ℕ
   line = drop at text
 
@@ -99,7 +99,7 @@ module _ {b text c : List ℕ} {at done all : ℕ} (s : Loaded b text c at done 
         let few = length-take (length (bytes ++ lineData line)) (s .whole .0) in
         omega (arith, ap length f, few, length-append bytes (lineData line), data-length line, s .checking .many, s .whole .2)
 
-    pub loaded-next : (d : List ℕ) (n : ℕ) → Put c d done (lineData line) n → Loaded b text d (at + lineSize line) n all
+    pub loaded-next : (d : List ℕ) (n : ℕ) → Put c d done (lineData line) n → DataStored b text d (at + lineSize line) n all
     unfolding checking-next
     loaded-next d n p =
         let e : n ≡ done + dataCount line = omega (arith, p .ends, data-length line) in
@@ -113,11 +113,11 @@ module _ {b text c : List ℕ} {at done all : ℕ} (s : Loaded b text c at done 
       rw (s .whole .1, f) (s .put)
 
 -- the import by what its lines come to
-pub imports-short : (text out : List ℕ) (all : ℕ) → Counts text (Right all) → length out < all → Imports text out (9 ∷ []) out
+pub imports-short : (text out : List ℕ) (all : ℕ) → Counts text (Right all) → length out < all → HexImports text out (9 ∷ []) out
 imports-short text out all w h = import-short text out (w .0) (w .1) (omega (arith, w .2))
 
 pub imports-right : (text : List ℕ) {b c : List ℕ} (all : ℕ) {n : ℕ} → Counts text (Right all) → all ≤ length b →
-    Put b c 0 (bytesOf (hexImport text)) n → Imports text b (0 ∷ n ∷ []) c
+    Put b c 0 (bytesOf (hexImport text)) n → HexImports text b (0 ∷ n ∷ []) c
 unfolding bytesOf
 imports-right text {b} {c} all {n} w h p =
     let q : Put b c 0 (w .0) n = rw (w .1) at p in

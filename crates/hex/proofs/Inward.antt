@@ -14,7 +14,7 @@ use Rattle.code.specs.Hex.{byteSum, lineBytes, dataCount, dataAddress, lineType
 use Rattle.code.specs.HexLine.{lineSize}
 use Rattle.code.proofs.Tests.{le-or-lt, both-true}
 use Rattle.code.proofs.HexLines.{is-false, spelled-small, next-is, size-within}
-use Rattle.hex.specs.declared.Line.{Line}
+use Rattle.hex.specs.declared.import.Line.{Line}
 use Rattle.hex.specs.Answers.{Measured, Spans}
 
 -- what holds below i and at i holds below i + 1
@@ -41,13 +41,13 @@ room-left n count h = elim (le-or-lt (n + count) 65536) [
 ]
 
 -- a line of the right shape, with all its numbers
-pub record Numbered (line : List ℕ) (l : Line) (kind address : ℕ) : Type 0 where
+pub record LineNumbers (line : List ℕ) (l : Line) (kind address : ℕ) : Type 0 where
   pub measured : Measured line l
   pub type-told : lineType line ≡ kind
   pub address-told : dataAddress line ≡ address
 
 -- the tests by these numbers
-module _ {line : List ℕ} {l : Line} {kind address : ℕ} (s : Numbered line l kind address) where
+module _ {line : List ℕ} {l : Line} {kind address : ℕ} (s : LineNumbers line l kind address) where
   pub laden-is : ladenEnd line ≡ (eqb kind 1 && not (eqb (l .count) 0 && eqb address 0))
   unfolding ladenEnd
   laden-is = rw (s .type-told, s .measured .count-told, s .address-told)

@@ -11,7 +11,7 @@ use lib.Seq.{take-suc, take-all, drop-drop}
 use Rattle.code.specs.Hex.{hexDigit, hexDigits, byteSum, sumByte, hexLine, dataLine, dataLines, lineCount, endRecord, hexText}
 use Rattle.code.proofs.Tests.{le-or-lt}
 use Rattle.code.proofs.HexText.{sum-append, lines-length}
-use Rattle.code.proofs.HexCalls.{Exports, export-stored}
+use Rattle.code.proofs.HexCalls.{HexExports, export-stored}
 use Rattle.storing.specs.Put.{Put}
 use Rattle.storing.proofs.Put.{put-then, put-pastes, Storing, storing-begin, storing-put, storing-end}
 
@@ -88,7 +88,7 @@ module _ {b bytes c : List ℕ} {at i : ℕ} (s : Lining b bytes c at i) where
 
 -- the lines, then the end record: all of the export
 pub exports : {b c d : List ℕ} {n k : ℕ} (bytes : List ℕ) → length bytes ≤ 65536 → length (hexText bytes) ≤ length b →
-    Put b c 0 (dataLines (lineCount (length bytes)) 0 bytes) n → Put c d n endRecord k → Exports bytes b (0 ∷ k ∷ []) d
+    Put b c 0 (dataLines (lineCount (length bytes)) 0 bytes) n → Put c d n endRecord k → HexExports bytes b (0 ∷ k ∷ []) d
 unfolding hexText
 exports {b} {c} {d} {n} {k} bytes few room p q =
     let all = put-then p q in

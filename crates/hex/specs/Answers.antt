@@ -6,18 +6,18 @@ use mathlib.Core.List.{List, [], _∷_}
 use lib.ListN.{length, drop}
 use Rattle.code.specs.Hex.{byteSum, lineBytes, dataCount, nextLine, allSpelled, lineRefusal, isEnd, faulty, gives, hexImport}
 use Rattle.code.specs.HexLine.{Shaped, lineSize}
-use Rattle.hex.specs.declared.Sum.{Sum}
-use Rattle.hex.specs.declared.Sum.the-variants.{Unspelled, Whole}
-use Rattle.hex.specs.declared.Line.{Line}
-use Rattle.hex.specs.declared.Shape.{Shape}
-use Rattle.hex.specs.declared.Shape.the-variants.{Bad, Good}
-use Rattle.hex.specs.declared.Judgement.{Judgement}
-use Rattle.hex.specs.declared.Judgement.the-variants.{Data, End, Faulty}
-use Rattle.hex.specs.declared.Checked.{Checked}
-use Rattle.hex.specs.declared.Checked.the-variants.{Wrong, Right}
+use Rattle.hex.specs.declared.import.Spelling.{Spelling}
+use Rattle.hex.specs.declared.import.Spelling.the-variants.{Unspelled, Whole}
+use Rattle.hex.specs.declared.import.Line.{Line}
+use Rattle.hex.specs.declared.import.LineShape.{LineShape}
+use Rattle.hex.specs.declared.import.LineShape.the-variants.{Bad, Good}
+use Rattle.hex.specs.declared.import.Judgement.{Judgement}
+use Rattle.hex.specs.declared.import.Judgement.the-variants.{Data, End, Faulty}
+use Rattle.hex.specs.declared.import.Checked.{Checked}
+use Rattle.hex.specs.declared.import.Checked.the-variants.{Wrong, Right}
 
 -- what bytes add up to, where digits spell them all
-abbrev pub Sums : List ℕ → Sum → Type 0
+abbrev pub Sums : List ℕ → Spelling → Type 0
 Sums bytes Unspelled = allSpelled bytes ≡ false
 Sums bytes (Whole n) = (allSpelled bytes ≡ true) × (byteSum bytes ≡ n)
 
@@ -28,9 +28,9 @@ pub record Measured (line : List ℕ) (l : Line) : Type 0 where
   pub sum-told : byteSum (lineBytes line) ≡ l .sum
   pub size-told : lineSize line ≡ l .size
 
-abbrev pub Tells : List ℕ → Shape → Type 0
-Tells line Bad = Shaped line → ⊥
-Tells line (Good l) = Measured line l
+abbrev pub TellsShape : List ℕ → LineShape → Type 0
+TellsShape line Bad = Shaped line → ⊥
+TellsShape line (Good l) = Measured line l
 
 -- the characters that a line takes, and the text behind them
 abbrev pub Spans : List ℕ → ℕ → Type 0

@@ -4,7 +4,7 @@ use borrow.Author.Needs.{needs}
 use denote.Ref.{now}
 use Rattle.code.proofs.HexCalls.{import-faulty}
 use Rattle.hex.specs.Answers.{Counts}
-use Rattle.hex.specs.declared.Checked.the-variants.{Right}
+use Rattle.hex.specs.declared.import.Checked.the-variants.{Right}
 use Rattle.hex.proofs.Checking.{imports-short, imports-right}
 use Rattle.hex.proofs.hex_import.Statement.{statement}
 use Rattle.hex.proofs.hex_import.Tie as tie
