@@ -115,7 +115,7 @@ record-short bytes at xs start h = rw (lt-ltb (length bytes - start) (getD xs 4 
 
 -- a record that stands at a place of a dump: the walk's step there gives it, and its cells are a part of the dump
 abbrev pub placed : ℕ → ℕ → ℕ → ℕ → ℕ → List ℕ → Record
-placed at serial m t v cells = record { serial = serial; shape = shaped m t v; start = at + length (head serial m t v (length cells)); count = length cells }
+placed at serial m t v cells = record { serial = serial; m = m; t = t; v = v; start = at + length (head serial m t v (length cells)); count = length cells }
 
 pub record Stands (bytes : List ℕ) (at serial m t v : ℕ) (cells : List ℕ) : Type 0 where
   pub stepped : step bytes at ≡ taken (placed at serial m t v cells)

@@ -16,12 +16,12 @@ pub numbers-same : (r p : Record) (xs ys : List ℕ) → recordNumbers r ++ xs �
 unfolding recordNumbers
 numbers-same r p xs ys e =
     let a : r .serial ≡ p .serial = cc in
-    let b : r .shape .m ≡ p .shape .m = cc in
-    let c : r .shape .t ≡ p .shape .t = cc in
-    let d : r .shape .v ≡ p .shape .v = cc in
+    let b : r .m ≡ p .m = cc in
+    let c : r .t ≡ p .t = cc in
+    let d : r .v ≡ p .v = cc in
     let f : r .start ≡ p .start = cc in
     let g : r .count ≡ p .count = cc in
-    (λ i. record { serial = a i; shape = record { m = b i; t = c i; v = d i }; start = f i; count = g i }, cc)
+    (λ i. record { serial = a i; m = b i; t = c i; v = d i; start = f i; count = g i }, cc)
 
 module _ (bytes : List ℕ) (at : ℕ) where
   -- a step stops with a refusal

@@ -7,6 +7,7 @@ use mathlib.Core.List.{List, [], _∷_, _++_}
 use lib.Dec.{ltb, eqb}
 use lib.ListN.{length, getD, take, drop}
 use Rattle.code.specs.declared.Record.{Record}
+use Rattle.code.specs.declared.Shape.{Shape}
 use Rattle.code.specs.Shape.{shaped, outside, misfit, countsOf}
 use Rattle.code.specs.Calls.{refusal, answer, leaves, filled, unsound, readReply}
 
@@ -83,7 +84,7 @@ pub data Step : Type 0 where
 
 -- the record of five numbers, whose cells start behind them
 unfoldable pub recordBy : List ℕ → ℕ → Record
-recordBy xs start = record { serial = getD xs 0 0; shape = shaped (getD xs 1 0) (getD xs 2 0) (getD xs 3 0); start = start; count = getD xs 4 0 }
+recordBy xs start = record { serial = getD xs 0 0; m = getD xs 1 0; t = getD xs 2 0; v = getD xs 3 0; start = start; count = getD xs 4 0 }
 
 -- "a number cut off, over nine bytes or not shortest, or fewer than n bytes after n"
 unfoldable pub broken : List ℕ → Numbers → Bool
@@ -120,11 +121,15 @@ cellsOf bytes r = take (r .count) (drop (r .start) bytes)
 
 -- the numbers of a record that the walk gives
 unfoldable pub recordNumbers : Record → List ℕ
-recordNumbers r = r .serial ∷ r .shape .m ∷ r .shape .t ∷ r .shape .v ∷ r .start ∷ r .count ∷ []
+recordNumbers r = r .serial ∷ r .m ∷ r .t ∷ r .v ∷ r .start ∷ r .count ∷ []
+
+-- the shape that a record's field has
+abbrev pub shapeOf : Record → Shape
+shapeOf r = shaped (r .m) (r .t) (r .v)
 
 -- "then reads them; refusals 1 to 4 belong to that record and the walk goes on"
 unfoldable pub outcome : List ℕ → Record → List ℕ
-outcome bytes r = readReply (r .shape) (cellsOf bytes r)
+outcome bytes r = readReply (shapeOf r) (cellsOf bytes r)
 
 -- the walk's step at a place, as a reply
 unfoldable pub stepValues : List ℕ → Step → List ℕ

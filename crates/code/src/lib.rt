@@ -14,7 +14,9 @@ pub struct Shape {
 // A record of a dump: its cells are the `count` bytes from `start` on.
 pub struct Record {
     pub serial: u64,
-    pub shape: Shape,
+    pub m: u64,
+    pub t: u64,
+    pub v: u64,
     pub start: usize,
     pub count: usize,
 }

@@ -88,7 +88,7 @@ pub fn step_at(dump: &[u8], at: usize) -> Step
     match locate(dump, at) {
         Located::Record(record) => {
             let cells = records::part(dump, record.start, record.count);
-            let outcome = field::read(record.shape, cells);
+            let outcome = field::read(records::shape_of(record), cells);
             Step::Record { record, outcome }
         }
         Located::End => Step::End,
@@ -132,7 +132,7 @@ fn step_record(dump: &[u8], h: &mut [u64; 16], kept: Plan, record: Record) -> St
     requires { ⌜ Planned kept (now h) ⌝ }
     ensures { λ r. ⌜ (stepOf (r .step) ≡ stepValues (now (dump .entry)) (taken «record»)) × Planned (r .kept) (now (h .exit)) ⌝ }
 {
-    let plan = renew(h, kept, record.shape);
+    let plan = renew(h, kept, records::shape_of(record));
     let outcome = field::read_by(plan, h, records::part(dump, record.start, record.count));
     let step = Step::Record { record, outcome };
     Stepped { step, kept: plan }
@@ -213,7 +213,9 @@ fn make_row(record: Record, outcome: Reading) -> Row
     ensures { λ r. ⌜ r .numbers ≡ recordNumbers «record» ++ filled 4 (readingOf outcome) ⌝ }
 {
     let serial = record.serial;
-    let s = record.shape;
+    let m = record.m;
+    let t = record.t;
+    let v = record.v;
     let start = record.start as u64;
     let count = record.count as u64;
     match outcome {
@@ -222,22 +224,11 @@ fn make_row(record: Record, outcome: Reading) -> Row
             number,
             left,
         } => {
-            let numbers = [
-                serial,
-                s.m,
-                s.t,
-                s.v,
-                start,
-                count,
-                0,
-                generation,
-                number,
-                left,
-            ];
+            let numbers = [serial, m, t, v, start, count, 0, generation, number, left];
             Row { numbers }
         }
         Reading::Refused(refusal) => {
-            let numbers = [serial, s.m, s.t, s.v, start, count, refusal, 0, 0, 0];
+            let numbers = [serial, m, t, v, start, count, refusal, 0, 0, 0];
             Row { numbers }
         }
     }

@@ -16,7 +16,7 @@ use Rattle.dump.specs.Answers.{dumpMost}
 use Rattle.gorvlime.specs.Fields.{cellsEnd, foundFields}
 
 pub found-record : (r : Record) (reading fields : List ℕ) → fields ≡ filled 4 reading →
-    0 ∷ 0 ∷ 1 ∷ r .serial ∷ r .shape .m ∷ r .shape .t ∷ r .shape .v ∷ r .start ∷ r .count ∷ (r .start + r .count) ∷ fields
+    0 ∷ 0 ∷ 1 ∷ r .serial ∷ r .m ∷ r .t ∷ r .v ∷ r .start ∷ r .count ∷ (r .start + r .count) ∷ fields
     ≡ foundFields (0 ∷ (recordNumbers r ++ reading))
 unfolding foundFields recordNumbers cellsEnd
 found-record r reading fields q = rw (lt-ltb 2 (length (0 ∷ (recordNumbers r ++ reading))) (omega arith), q)

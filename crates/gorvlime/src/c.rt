@@ -181,15 +181,14 @@ fn flat_step(a: dump::Step) -> StepAnswer
     match a {
         dump::Step::Record { record, outcome } => {
             let o = flat_reading(outcome);
-            let s = record.shape;
             StepAnswer {
                 refusal: 0,
                 offset: 0,
                 records: 1,
                 serial: record.serial,
-                m: s.m,
-                t: s.t,
-                v: s.v,
+                m: record.m,
+                t: record.t,
+                v: record.v,
                 start: record.start as u64,
                 length: record.count as u64,
                 next: (record.start + record.count) as u64,

@@ -8,7 +8,7 @@ use native.Mathlib.Numerals.{add-one}
 use lib.ListN.{length, take, drop}
 use lib.Seq.{take-at}
 use Rattle.code.specs.declared.Record as Declared
-use Rattle.code.specs.Dump.{cellsOf, outcome, stepReply, recordLine, lastLine, lines, textFrom}
+use Rattle.code.specs.Dump.{cellsOf, outcome, stepReply, recordLine, lastLine, lines, textFrom, shapeOf}
 use Rattle.code.proofs.Tests.{clash, same-test}
 use Rattle.code.proofs.ReadCall.{read-refusing}
 use Rattle.code.proofs.Walk.{walk-ended, walk-stopped, onward-taken}
@@ -37,7 +37,7 @@ module _ (bytes : List ℕ) (at : ℕ) {s : Step} (gives : stepOf s ≡ stepRepl
 
     pub record-refusing : Refusing (readingOf reading)
     unfolding outcome
-    record-refusing = rw (← gives-record bytes at gives e .1) (read-refusing (r .shape) (cellsOf bytes r))
+    record-refusing = rw (← gives-record bytes at gives e .1) (read-refusing (shapeOf r) (cellsOf bytes r))
 
   end-text : (count : ℕ) → s ≡ End → textFrom bytes at count ≡ lastLine count
   unfolding lines

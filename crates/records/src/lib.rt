@@ -7,7 +7,7 @@ ghost use mathlib.Core.List.{List, [], _∷_};
 ghost use Prim.Native.Nat.{ℕ, _^_, _≤_};
 ghost use lib.ListN.{length, take, drop};
 ghost use Rattle.code.specs.Lists.{Below};
-ghost use Rattle.code.specs.Dump.{readNumbers, recordOf, recordAt};
+ghost use Rattle.code.specs.Dump.{readNumbers, recordOf, recordAt, shapeOf};
 ghost use Rattle.storing.specs.Put.{fronted};
 ghost use Rattle.records.specs.Head.{headStep};
 
@@ -27,17 +27,25 @@ pub fn read_head(dump: &[u8], at: usize) -> Head
     if ((dump.len() - end) as u64) < count {
         return Head::Malformed { offset: at };
     }
-    let shape = Shape {
+    Head::Whole(Record {
+        serial: numbers[0],
         m: numbers[1],
         t: numbers[2],
         v: numbers[3],
-    };
-    Head::Whole(Record {
-        serial: numbers[0],
-        shape,
         start: end,
         count: count as usize,
     })
+}
+
+// The shape of a record's field.
+pub fn shape_of(whole: Record) -> Shape
+    ensures { λ r. ⌜ r ≡ shapeOf whole ⌝ }
+{
+    Shape {
+        m: whole.m,
+        t: whole.t,
+        v: whole.v,
+    }
 }
 
 // The cells of a record, as a part of the dump.

@@ -16,6 +16,8 @@ step-at-spec =
     (λ c. search needs)
     -- part-requires
     (λ c κs. search needs)
+    -- shape-of-requires
+    (λ c κs. search needs)
     -- read-requires
     (λ c κs. search needs)
     -- enum-told
@@ -23,7 +25,9 @@ step-at-spec =
     -- enum-known-halt
     (λ c. search needs)
     -- returns
-    (λ c. cc (located-reply _ _ (rw (c .before .before .before .record .given .1) at (c .before .before .before .before .before .locate .ensures))))
+    (λ c.
+    let found = c .before .before .before .before in
+    cc (located-reply _ _ (rw (found .record .given .1) at (found .before .before .locate .ensures))))
     -- returns-2
     (λ c. located-reply _ _ (rw (c .enum-told .given .1) at (c .before .before .locate .ensures)))
     -- returns-3
