@@ -60,7 +60,7 @@ module _ (o m first : ℕ) (hs vs : List ℕ) where
     pub right : sound o m (getD hs 0 0) bs′ ≡ true
     pub bytes : Bytes bs′
     pub long : length bs′ ≡ length bs
-    pub reading : Tells (readCells o m first hs vs bs′) i x
+    pub reading : Tells first (readCells o m first hs vs bs′) i x
     pub rises : (w : ℕ) → wit o bs w ≤ wit o bs′ w
     pub gained : turned o bs bs′ + ones o bs ≡ ones o bs′
 

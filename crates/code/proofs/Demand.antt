@@ -1,36 +1,44 @@
 -- The three demands of the calls' replies, for every shape.
-use Prim.Native.Nat.{ℕ, suc, _+_, _-_, _≤_, _<_}
+use Prim.Native.Nat.{ℕ, zero, suc, _+_, _-_, _^_, _≤_, _<_}
 use mathlib.Core.Path.{_≡_, refl, sym, ap, _∙_}
 use mathlib.Core.Logic.{inl, inr}
-use mathlib.Core.Bool.{false, true≢false}
+use mathlib.Core.Bool.{true, false, true≢false}
 use mathlib.Core.List.{List, [], _∷_}
 use native.Mathlib.Omega.{arith}
-use native.Mathlib.Nat.{le-refl}
-use lib.ListN.{length, getD, take, replicate}
+use native.Mathlib.Nat.{le-refl, sub-zero}
+use lib.ListN.{length, getD, take, replicate, length-replicate}
 use lib.Dec.{leb}
 use borrow.Author.Tests.{ltb-false, lt-ltb, le-ltb, ne-eqb}
 use Rattle.code.specs.declared.Shape.{Shape}
 use Rattle.code.specs.Shape.{firstOf, rangesOf, orderOf, outside, granted, misfit, countsOf, widthOf}
 use Rattle.code.specs.Lists.{Below, Rises}
 use Rattle.code.specs.Layout.{Meets, grant}
-use Rattle.code.specs.Cells.{wit, size, ones, turned}
-use Rattle.code.specs.Field.{Writing, refused, wrote}
+use Rattle.code.specs.Cells.{wit, opened, sound, stored, size, ones, turned}
+use Rattle.code.specs.Deal.{written}
+use Rattle.code.specs.Field.{blank, Writing, refused, wrote}
 use Rattle.code.specs.Run.{accepted, kept, run, total, opening}
-use Rattle.code.specs.Calls.{refusal, answer, passes, leaves, layoutRefusal, fieldRead, fieldWrite, left, readReply, writeRefusal, madeAt, writeReply, turnedBy, writeLeaves}
+use Rattle.code.specs.Calls.{readCells, numberless, refusal, answer, passes, leaves, layoutRefusal, fieldRead, fieldWrite, left, readReply, writeRefusal, madeAt, writeReply, turnedBy, writeLeaves}
 use Rattle.code.specs.Dump.{exportRefusal, exportLeaves}
 use Rattle.code.proofs.Tests.{le-or-lt, clash}
 use Rattle.code.proofs.Wits.{Bytes}
-use Rattle.code.proofs.Cells.{turned-ones}
+use Rattle.code.proofs.Cells.{groups-length, sound-told, stored-opened, stored-sound, upto-all, none-at, blank-stored, turned-ones}
+use Rattle.code.proofs.Field.{read-blank, blank-read}
 use Rattle.code.proofs.Grant.{grant-meets, grant-least, grant-refused}
-use Rattle.code.proofs.Run.{equal-range, run-same, total-same}
+use Rattle.code.proofs.Run.{equal-range, blank-written, run-same, total-same}
 use Rattle.code.proofs.Bytes.{accepted-is, triedCells, turns, tried-is, turned-blank, accepts-is}
-use Rattle.code.proofs.LayoutCall.{outside-within, within-outside, layout-none, ranges-length, counts-length, bounded, is-layout}
-use Rattle.code.proofs.ReadCall.{read-as}
+use Rattle.code.proofs.LayoutCall.{first-new, outside-within, within-outside, layout-none, ranges-length, counts-length, bounded, is-layout}
+use Rattle.code.proofs.ReadCall.{read-none, read-as, eleven-told}
 use Rattle.code.proofs.WriteCall.{write-some, refused-not, leaves-is}
 
 -- the blank cells of a field
 abbrev pub blankCells : Shape → List ℕ
 blankCells s = replicate (size (s .m) (widthOf s)) 0
+
+none-written : (gs : List ℕ) → written gs ≡ 0 → gs ≡ replicate (length gs) 0
+unfolding written
+none-written [] z = refl
+none-written (zero ∷ gs) z = ap (_∷_ 0) (none-written gs z)
+none-written (suc x ∷ gs) z = absurd (omega arith)
 
 -- the cells that a write of x leaves by the rules
 abbrev ruled : Shape → ℕ → List ℕ → List ℕ
@@ -99,6 +107,40 @@ module _ (s : Shape) (ok : layoutRefusal s 256 ≡ []) where
       ∙ rw (run-same (writeLeaves s) (ruled s) (leaves-is s ok) (blankCells s) (take j xs))
       (rw (counts-length s ok) at
       (accepts-is (orderOf s) (s .m) (firstOf s) hs vs (is-layout s ok) some xs j (equal-range (firstOf s) (s .t) (s .v) 0 xs b) l))
+
+  -- 02, §2, of a new drive: "the j-th write is accepted exactly when j ≤ t"
+  pub accepted-new : s .form ≡ 1 → (xs : List ℕ) (j : ℕ) → Below (s .v) xs → j < length xs →
+      passes (writeRefusal s (getD xs j 0) (run (writeLeaves s) (blankCells s) (take j xs))) ≡ leb (suc j) (s .t)
+  unfolding opening
+  accepted-new new xs j b l = accepted-exactly xs j b l ∙ rw (first-new s new, sub-zero)
+
+  blank-sound : (sound (orderOf s) (s .m) (widthOf s) (blankCells s) ≡ true) × (opened (orderOf s) (s .m) (widthOf s) (blankCells s) ≡ replicate (widthOf s) 0)
+  blank-sound =
+      let h = widthOf s in
+      let l = length-replicate {A = ℕ} h 0 in
+      let right = rw l at (stored-sound (orderOf s) (s .m) (replicate h 0) some) in
+      let back = rw l at (stored-opened (orderOf s) (s .m) (replicate h 0) some (upto-all (2 ^ s .m - 1) (replicate h 0) (λ i u. omega (arith, none-at h i)))) in
+      rw (← blank-stored (orderOf s) (s .m) h some) (right, back)
+
+  -- 02, §2: "reading blank form 1 cells gives 11", and no other cells
+  pub blank-refused : s .form ≡ 1 → readReply s (blankCells s) ≡ 11 ∷ []
+  unfolding numberless fieldRead readCells widthOf
+  blank-refused new =
+      let groups = opened (orderOf s) (s .m) (widthOf s) (blankCells s) in
+      let none : written groups ≡ 0 = rw (blank-sound .1) (blank-written (widthOf s)) in
+      let r : fieldRead s (blankCells s) ≡ blank = read-blank (2 ^ s .m - 1) (firstOf s) (countsOf s) (rangesOf s) groups none in
+      read-none s (blankCells s) ok (blank-sound .0) (rw (r, new))
+
+  pub refused-blank : (bs : List ℕ) → Bytes bs → readReply s bs ≡ 11 ∷ [] → (s .form ≡ 1) × (bs ≡ blankCells s)
+  unfolding fieldRead readCells widthOf
+  refused-blank bs B e =
+      let n = eleven-told s bs ok e in
+      let h = widthOf s in
+      let groups = opened (orderOf s) (s .m) h bs in
+      let none = blank-read (2 ^ s .m - 1) (firstOf s) (countsOf s) (rangesOf s) groups (n .2) in
+      let zero : groups ≡ replicate h 0 = rw (groups-length (s .m) h (wit (orderOf s) bs)) at (none-written groups none) in
+      let told = sound-told (orderOf s) (s .m) h bs (n .1) B some in
+      (omega (arith, n .0, bounded s ok .form-high), sym told ∙ ap (stored (orderOf s) (s .m)) zero ∙ blank-stored (orderOf s) (s .m) h some)
 
 -- Demand 3, first half: the granted list meets a to d within g and is count for count at most every list that meets them.
 pub layout-granted : (s : Shape) (g : ℕ) → layoutRefusal s g ≡ [] →

@@ -86,12 +86,12 @@ both true true j ks i gs h = (refl, refl, cc, cc)
 both true false j ks i gs h = let z : _≡_ {A = ℕ} 0 1 = cc in absurd (omega arith)
 both false b j ks i gs h = let z : _≡_ {A = ℕ} 0 1 = cc in absurd (omega arith)
 
--- a reading as generation and number; "All-zero cells read as generation 1, number 0"
-abbrev pub Tells : Reading → ℕ → ℕ → Type 0
-Tells blank i x = (i ≡ 1) × (x ≡ 0)
-Tells (reads j y) i x = (i ≡ j) × (x ≡ y)
-Tells (miscounted j u) i x = ⊥
-Tells (beyond j) i x = ⊥
+-- a reading as generation and number; "All-zero cells read as generation 1, number 0", where generation 1 may write no place
+abbrev pub Tells : ℕ → Reading → ℕ → ℕ → Type 0
+Tells first blank i x = (first ≡ 0) × (i ≡ 1) × (x ≡ 0)
+Tells first (reads j y) i x = (i ≡ j) × (x ≡ y)
+Tells first (miscounted j u) i x = ⊥
+Tells first (beyond j) i x = ⊥
 
 -- a test and a reading of generation j, which is the one that is read
 judged-which : (t u : Bool) (j x k i y : ℕ) → cond t (cond u (reads j x) (beyond j)) (miscounted j k) ≡ reads i y → i ≡ j
@@ -188,7 +188,7 @@ module _ (e first : ℕ) (hs vs : List ℕ) where
 
   -- what an accepted write of x at generation i leaves
   pub record Wrote (x : ℕ) (gs : List ℕ) (i : ℕ) (gs′ : List ℕ) : Type 0 where
-    pub reading : Tells (read e first hs vs gs′) i x
+    pub reading : Tells first (read e first hs vs gs′) i x
     pub long : length gs′ ≡ length gs
     pub small : Upto e gs′
     pub grows : Grows e gs gs′
@@ -236,19 +236,20 @@ module _ (e first : ℕ) (hs vs : List ℕ) where
           grows = erase-lay-grows e k gs p pos;
         }
 
-    -- cells that a write leaves blank were written at generation 1 with number 0
-    after-blank : (n x : ℕ) (gs gs′ : List ℕ) → After n x gs gs′ → written gs′ ≡ 0 → (n ≡ 0) × (x ≡ 0)
+    -- cells that a write leaves blank were written at generation 1 with number 0, where that writes no place
+    after-blank : (n x : ℕ) (gs gs′ : List ℕ) → After n x gs gs′ → written gs′ ≡ 0 → (first ≡ 0) × (n ≡ 0) × (x ≡ 0)
     unfolding fewest base carriers
     after-blank zero x gs gs′ a z = (
+      omega (arith, a .marked),
       refl,
       sym (a .tells) ∙ told-before e e first (getD hs 1 0) gs′ (omega (arith, holds-falls e e first hs vs 1 (y .holds) (y .two)))
           ∙ blank-number e first gs′ z,
     )
     after-blank (suc n) x gs gs′ a z = absurd (omega (arith, a .marked))
 
-    pub after-tells : (n x : ℕ) (gs gs′ : List ℕ) → After n x gs gs′ → Tells (read e first hs vs gs′) (suc n) x
+    pub after-tells : (n x : ℕ) (gs gs′ : List ℕ) → After n x gs gs′ → Tells first (read e first hs vs gs′) (suc n) x
     after-tells n x gs gs′ a = elim (le-or-lt (written gs′) 0) [
-      | inl z ↦ let q = after-blank n x gs gs′ a (omega arith) in rw (read-blank gs′ (omega arith)) (ap suc (q .0), q .1)
+      | inl z ↦ let q = after-blank n x gs gs′ a (omega arith) in rw (read-blank gs′ (omega arith)) (q .0, ap suc (q .1), q .2)
       | inr w ↦ rw (a .back w) (refl, refl)
     ]
 

@@ -7,7 +7,7 @@ use native.Mathlib.Omega.{arith}
 use native.Mathlib.Nat.{sub-zero, suc-sub-suc}
 use lib.ListN.{length, getD, take, replicate, length-take, length-append, length-replicate, getD-replicate}
 use lib.Seq.{take-at}
-use lib.Dec.{leb}
+use lib.Dec.{leb, eqb}
 use borrow.Author.Tests.{le-leb, lt-ltb, le-ltb, ltb-false, leb-true, not-false}
 use Rattle.code.specs.declared.Shape.{Shape}
 use Rattle.code.specs.Shape.{firstOf, rangesOf, outside, Bounds, granted, misfit, countsOf, widthOf}
@@ -29,13 +29,16 @@ outside-within s g h =
     let m = s .m in
     let t = s .t in
     let v = s .v in
-    let a = both-true ((leb 2 m && leb m 4) && (leb 2 t && leb t 16) && (leb 2 v && leb v (2 ^ 56))) (leb g 256) (not-false _ h) in
-    let b = both-true ((leb 2 m && leb m 4) && (leb 2 t && leb t 16)) (leb 2 v && leb v (2 ^ 56)) (a .0) in
-    let c = both-true (leb 2 m && leb m 4) (leb 2 t && leb t 16) (b .0) in
-    let d = both-true (leb 2 m) (leb m 4) (c .0) in
+    let f0 = leb (s .form) 1 in
+    let a = both-true (f0 && (leb 2 m && leb m 4) && (leb 2 t && leb t 16) && (leb 2 v && leb v (2 ^ 56))) (leb g 256) (not-false _ h) in
+    let b = both-true (f0 && (leb 2 m && leb m 4) && (leb 2 t && leb t 16)) (leb 2 v && leb v (2 ^ 56)) (a .0) in
+    let c = both-true (f0 && (leb 2 m && leb m 4)) (leb 2 t && leb t 16) (b .0) in
+    let k = both-true f0 (leb 2 m && leb m 4) (c .0) in
+    let d = both-true (leb 2 m) (leb m 4) (k .1) in
     let e = both-true (leb 2 t) (leb t 16) (c .1) in
     let f = both-true (leb 2 v) (leb v (2 ^ 56)) (b .1) in
     let bounds : Bounds s = record {
+      form-high = leb-true (s .form) 1 (k .0);
       m-low = leb-true 2 m (d .0);
       m-high = leb-true m 4 (d .1);
       t-low = leb-true 2 t (e .0);
@@ -49,7 +52,7 @@ pub within-outside : (s : Shape) (g : ℕ) → Within s g → outside s g ≡ fa
 unfolding outside
 within-outside s g w =
     let b = w .bounds in
-    rw (le-leb 2 (s .m) (b .m-low), le-leb (s .m) 4 (b .m-high), le-leb 2 (s .t) (b .t-low), le-leb (s .t) 16 (b .t-high))
+    rw (le-leb (s .form) 1 (b .form-high), le-leb 2 (s .m) (b .m-low), le-leb (s .m) 4 (b .m-high), le-leb 2 (s .t) (b .t-low), le-leb (s .t) 16 (b .t-high))
     (rw (le-leb 2 (s .v) (b .v-low), le-leb (s .v) (2 ^ 56) (b .v-high), le-leb g 256 (w .g-high)))
 
 -- a test that is passed, and those after it
@@ -107,7 +110,24 @@ granted-length s g = grant-length g (s .m) (firstOf s) (rangesOf s) ∙ ranges-l
 
 pub first-form : (s : Shape) → firstOf s ≤ 1
 unfolding firstOf
-first-form s = omega arith
+first-form s = go (eqb (s .form) 0)
+  where
+    go : (b : Bool) → cond b 0 1 ≤ 1
+    go true = omega arith
+    go false = omega arith
+
+-- the form by the least number of places, and the other way
+pub first-old : (s : Shape) → firstOf s ≡ 0 → eqb (s .form) 0 ≡ true
+unfolding firstOf
+first-old s h = go (eqb (s .form) 0) h
+  where
+    go : (b : Bool) → _≡_ {A = ℕ} (cond b 0 1) 0 → b ≡ true
+    go true e = refl
+    go false e = absurd (omega arith)
+
+pub first-new : (s : Shape) → s .form ≡ 1 → firstOf s ≡ 1
+unfolding firstOf
+first-new s h = rw h
 
 -- what a layout is that is granted to read, write and export
 module _ (s : Shape) (ok : layoutRefusal s 256 ≡ []) where

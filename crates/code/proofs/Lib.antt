@@ -35,3 +35,4 @@ pub mod HexLines
 pub mod HexText
 pub mod HexImport
 pub mod HexCalls
+pub mod NewForm

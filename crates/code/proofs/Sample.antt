@@ -9,7 +9,7 @@ use Rattle.code.specs.Deal.{written, rank, digits, number, plain}
 use Rattle.code.specs.Cells.{place, wit, value, listed, group, groups, sound}
 use Rattle.code.specs.Field.{zeros, unerased, past, base, fewest, carriers, told, judged, read}
 use Rattle.code.specs.Shape.{firstOf, rangesOf, orderOf, outside, granted, misfit, countsOf, widthOf}
-use Rattle.code.specs.Calls.{readCells, refusal, answer, filled, fieldRead, unsound, unreadable, generation, holds, left, readRefusal, readReply}
+use Rattle.code.specs.Calls.{readCells, refusal, answer, filled, fieldRead, unsound, numberless, unreadable, generation, holds, left, readRefusal, readReply}
 use Rattle.code.specs.Dump.{longer, readSevens, preceded, readNumbers, recordBy, broken, stepRefusal, found, stepOn, step, cellsOf, recordNumbers, outcome, walkFrom, walk, rowsOf, walkLeaves, ascii, spelled, recordLine, lastLine, stopLines, lines, listing}
 
 abbrev sample : List ℕ
@@ -26,5 +26,5 @@ pub sampled :
     300 ∷ 2 ∷ 2 ∷ 20 ∷ 12 ∷ 2 ∷ 0 ∷ 1 ∷ 1 ∷ 1 ∷
     8 ∷ 2 ∷ 3 ∷ 4 ∷ 19 ∷ 1 ∷ 0 ∷ 1 ∷ 0 ∷ 3 ∷
     9 ∷ 2 ∷ 2 ∷ 20 ∷ 25 ∷ 2 ∷ 4 ∷ 0 ∷ 0 ∷ 0 ∷ 1 ∷ [])
-unfolding choose fewer least room counts grant written rank digits number plain place wit value listed group groups sound zeros unerased past base fewest carriers told judged read readCells refusal answer filled firstOf rangesOf orderOf outside granted misfit countsOf widthOf fieldRead unsound unreadable generation holds left readRefusal readReply longer readSevens preceded readNumbers recordBy broken stepRefusal found stepOn step cellsOf recordNumbers outcome walkFrom walk rowsOf walkLeaves ascii spelled recordLine lastLine stopLines lines listing
+unfolding choose fewer least room counts grant written rank digits number plain place wit value listed group groups sound zeros unerased past base fewest carriers told judged read readCells refusal answer filled firstOf rangesOf orderOf outside granted misfit countsOf widthOf fieldRead unsound numberless unreadable generation holds left readRefusal readReply longer readSevens preceded readNumbers recordBy broken stepRefusal found stepOn step cellsOf recordNumbers outcome walkFrom walk rowsOf walkLeaves ascii spelled recordLine lastLine stopLines lines listing
 sampled = (refl, refl, refl)

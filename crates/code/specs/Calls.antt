@@ -107,12 +107,20 @@ left t (reads i x) = t - i
 left t (miscounted i u) = t - i
 left t (beyond i) = t - i
 
--- the table's rows for read, in its order: 1, 2, 3, 4
+-- 02, §2: "reading blank form 1 cells gives 11"; in form 0 they have a number
+unfoldable pub numberless : Shape → Reading → Bool
+numberless s blank = not (eqb (s .form) 0)
+numberless s (reads i x) = false
+numberless s (miscounted i u) = false
+numberless s (beyond i) = false
+
+-- the table's rows for read, in its order, with 02's 11 "after 3": 1, 2, 3, 11, 4
 unfoldable pub readRefusal : Shape → List ℕ → List ℕ
 readRefusal s bytes = refusal (
     (1 ∷ [], outside s 256) ∷
     (2 ∷ [], misfit 256 (countsOf s)) ∷
     (3 ∷ [], unsound s bytes) ∷
+    (11 ∷ [], numberless s (fieldRead s bytes)) ∷
     (4 ∷ [], unreadable (fieldRead s bytes)) ∷ [])
 
 -- the call's answer: generation, number and writes left

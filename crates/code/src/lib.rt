@@ -3,6 +3,8 @@
 // What a caller gives of a field.
 #[repr(C)]
 pub struct Shape {
+    // 0 for drives in service, where blank cells read as the number 0; 1 for new ones, where they have no number.
+    pub form: u64,
     // Wits in a group.
     pub m: u64,
     // Generations.

@@ -6,6 +6,7 @@ use layout::Plan;
 use records::Head;
 use storing::Made;
 ghost use mathlib.Core.Path.{_≡_};
+ghost use mathlib.Core.Bool.{true};
 ghost use mathlib.Core.List.{[], _∷_, _++_};
 ghost use Prim.Native.Nat.{_+_, _≤_};
 ghost use lib.ListN.{length, replicate};
@@ -31,7 +32,7 @@ pub fn export(serial: u64, m: u64, t: u64, v: u64, cells: &[u8], out: &mut [u8])
     if SERIAL_END <= serial {
         return Made::Refused(10);
     }
-    let s = Shape { m, t, v };
+    let s = Shape { form: 0, m, t, v };
     let mut h = [0u64; 16];
     let refusal = layout::lay_into(&mut h, s, 256);
     if refusal != 0 {
@@ -96,12 +97,32 @@ pub fn step_at(dump: &[u8], at: usize) -> Step
     }
 }
 
-// What is kept before the first record, with no counts: the refusal of the shape 0, 0, 0.
+// What is kept before the first record, with no counts: the refusal of the shape of zeros.
 pub fn keep_none() -> Plan
     ensures { λ r. ⌜ Planned r (replicate 16 0) ⌝ }
 {
-    let shape = Shape { m: 0, t: 0, v: 0 };
+    let shape = Shape {
+        form: 0,
+        m: 0,
+        t: 0,
+        v: 0,
+    };
     Plan { shape, refusal: 1 }
+}
+
+fn same_shape(a: Shape, b: Shape) -> bool
+    ensures { λ r. ⌜ (r ≡ true → a ≡ b) ⌝ }
+{
+    if a.v != b.v {
+        return false;
+    }
+    if a.t != b.t {
+        return false;
+    }
+    if a.m != b.m {
+        return false;
+    }
+    a.form == b.form
 }
 
 // The plan of a shape, which is the one kept where a record repeats the shape of the record before.
@@ -109,13 +130,8 @@ fn renew(h: &mut [u64; 16], kept: Plan, shape: Shape) -> Plan
     requires { ⌜ Planned kept (now h) ⌝ }
     ensures { λ r. ⌜ (r .shape ≡ shape) × Planned r (now (h .exit)) ⌝ }
 {
-    let s = kept.shape;
-    if s.v == shape.v {
-        if s.t == shape.t {
-            if s.m == shape.m {
-                return kept;
-            }
-        }
+    if same_shape(kept.shape, shape) {
+        return kept;
     }
     *h = [0u64; 16];
     let refusal = layout::lay_into(h, shape, 256);

@@ -21,7 +21,7 @@ use Rattle.code.proofs.LayoutCall.{bounded, is-layout, layout-which}
 use Rattle.code.proofs.WriteCall.{write-some, write-no-layout, leaves-is}
 use Rattle.code.proofs.Demand as Code
 use Rattle.field.specs.declared.Reading.{Reading}
-use Rattle.field.specs.declared.Reading.the-variants.{Read}
+use Rattle.field.specs.declared.Reading.the-variants.{Read, Refused as NotRead}
 use Rattle.field.specs.declared.Writing.{Writing}
 use Rattle.field.specs.declared.Writing.the-variants.{Written, Refused}
 use Rattle.field.specs.Answers.{readingOf, writingOf}
@@ -126,6 +126,12 @@ module _ (s : Shape) (ok : layoutRefusal s 256 ≡ []) (xs : List ℕ) (cells : 
       accepts-is s (getD xs j 0) (cells j) (answers j) (C .each j l .0)
       ∙ rw (cells-are j (omega arith)) (Code.accepted-exactly s ok xs j b l)
 
+  -- 02, §2, of a new drive: call j is accepted exactly when j + 1 is at most t.
+  pub accepted-new : s .form ≡ 1 → (j : ℕ) → Below (s .v) xs → j < length xs → accepts (answers j) ≡ leb (suc j) (s .t)
+  accepted-new new j b l =
+      accepts-is s (getD xs j 0) (cells j) (answers j) (C .each j l .0)
+      ∙ rw (cells-are j (omega arith)) (Code.accepted-new s ok new xs j b l)
+
   are-bytes : (j : ℕ) → j ≤ length xs → Bytes (cells j)
   are-bytes zero l =
       let n = size (s .m) (widthOf s) in
@@ -151,3 +157,11 @@ module _ (s : Shape) (ok : layoutRefusal s 256 ≡ []) (xs : List ℕ) (cells : 
   -- The turned counts answered add up to the ones in the cells.
   pub turned-add-up : (j : ℕ) → j ≤ length xs → turnedSum answers j ≡ ones (orderOf s) (cells j)
   turned-add-up j l = sym (counted j l) ∙ Code.turned-add-up s ok (take j xs) ∙ ap (ones (orderOf s)) (sym (cells-are j l))
+
+-- 02, §2: refusal 11 is the answer to blank cells of a new drive, and to no other cells that pass 1 to 3.
+module _ (s : Shape) (ok : layoutRefusal s 256 ≡ []) where
+  pub blank-refused : (a : Reading) → s .form ≡ 1 → readingOf a ≡ readReply s (Code.blankCells s) → a ≡ NotRead 11
+  blank-refused a new p = same-reading a (NotRead 11) (p ∙ Code.blank-refused s ok new)
+
+  pub refused-blank : (bs : List ℕ) → Bytes bs → readingOf (NotRead 11) ≡ readReply s bs → (s .form ≡ 1) × (bs ≡ Code.blankCells s)
+  refused-blank bs B p = Code.refused-blank s ok bs B (sym p)

@@ -1,11 +1,12 @@
 -- What is read, from what the calls between have found.
 use mathlib.Core.Path.{_≡_, refl, sym, ap, _∙_}
 use mathlib.Core.Logic.{_≢_, inl, inr}
-use mathlib.Core.Bool.{Bool, true, not}
+use mathlib.Core.Bool.{Bool, true, false, cond, not}
 use mathlib.Core.List.{List, [], _∷_}
 use Prim.Native.Nat.{ℕ, zero, suc, _+_, _*_, _-_, _^_, _≤_, _<_}
 use native.Mathlib.Omega.{arith}
 use native.Mathlib.Numerals.{add-one}
+use lib.Dec.{eqb}
 use lib.ListN.{length, getD, take, replicate}
 use lib.Seq.{take-at}
 use lib.Arith.{lt-of-le-ne}
@@ -18,7 +19,7 @@ use Rattle.code.specs.Deal.{written, number, plain}
 use Rattle.code.specs.Chosen.{ranked, patternMost}
 use Rattle.code.specs.Cells.{wit, opened, sound}
 use Rattle.code.specs.Field as Field
-use Rattle.code.specs.Calls.{readCells, fieldRead, unreadable, generation, holds, left, readReply, filled, layoutFields, layoutReply}
+use Rattle.code.specs.Calls.{readCells, fieldRead, numberless, unreadable, generation, holds, left, readReply, filled, layoutFields, layoutReply}
 use Rattle.code.proofs.Tests.{le-or-lt}
 use Rattle.code.proofs.Deal.{written-le}
 use Rattle.code.proofs.Chosen.{rank-chosen, digits-chosen}
@@ -27,7 +28,7 @@ use Rattle.code.proofs.Groups.{zeros-written, zeros-blank, unerased-zeros, zero
 use Rattle.code.proofs.Field.{past-next, read-blank, read-judged, judged-reads, judged-beyond, judged-miscounted}
 use Rattle.code.proofs.Cells.{groups-length}
 use Rattle.code.proofs.LayoutCall.{range-at}
-use Rattle.code.proofs.ReadCall.{read-no-layout, read-unsound, read-unread, read-found}
+use Rattle.code.proofs.ReadCall.{read-no-layout, read-unsound, read-none, read-unread, read-found}
 use Rattle.counting.specs.Cap.{sat}
 use Rattle.words.specs.Words.{wordGroups, frontGroups, frontAt}
 use Rattle.words.specs.Marks.{Viewed, Fronted, Listed, Gathered, Pickable}
@@ -209,13 +210,17 @@ module _ {s : Shape} {h : List ℕ} (G : Granted s h) (bs : List ℕ) where
           r ≡ Field.read (2 ^ s .m - 1) (firstOf s) (countsOf s) (rangesOf s) (fieldGroups s n words) → Looked s bs words n (seen .zeros) r
       looked marks seen r W k = record { holds = loaded-holds; same = loaded-groups; none = W .blank ∙ same-zeros G loaded-holds; read = k }
 
-    pub reads-as : {words : List ℕ} {n z : ℕ} (r : Field.Reading) → Looked s bs words n z r → answerOf (s .t) r ≡ readReply s bs
-    unfolding fieldRead readCells widthOf unreadable generation holds left
+    pub reads-as : {words : List ℕ} {n z : ℕ} (r : Field.Reading) → Looked s bs words n z r → answerOf s r ≡ readReply s bs
+    unfolding fieldRead readCells widthOf numberless unreadable generation holds left
     reads-as r K = go r (sym (K .read ∙ rw (K .same)))
       where
-        go : (r : Field.Reading) → fieldRead s bs ≡ r → answerOf (s .t) r ≡ readReply s bs
-        go Field.blank e = sym (read-found s bs (G .ok) f Field.blank e refl)
-        go (Field.reads i x) e = sym (read-found s bs (G .ok) f (Field.reads i x) e refl)
+        old-or-new : (b : Bool) → eqb (s .form) 0 ≡ b → fieldRead s bs ≡ Field.blank → cond b (0 ∷ 1 ∷ 0 ∷ s .t ∷ []) (11 ∷ []) ≡ readReply s bs
+        old-or-new true b e = sym (read-found s bs (G .ok) f Field.blank e (rw b) refl)
+        old-or-new false b e = sym (read-none s bs (G .ok) f (rw (e, b)))
+
+        go : (r : Field.Reading) → fieldRead s bs ≡ r → answerOf s r ≡ readReply s bs
+        go Field.blank e = old-or-new (eqb (s .form) 0) refl e
+        go (Field.reads i x) e = sym (read-found s bs (G .ok) f (Field.reads i x) e refl refl)
         go (Field.miscounted i u) e = sym (read-unread s bs (G .ok) f (rw e))
         go (Field.beyond i) e = sym (read-unread s bs (G .ok) f (rw e))
 

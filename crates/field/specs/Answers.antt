@@ -38,11 +38,11 @@ foundOf (Miscounted i u) = Field.miscounted i u
 foundOf (Beyond i) = Field.beyond i
 
 -- what is answered for a reading
-abbrev pub answerOf : ℕ → Field.Reading → List ℕ
-answerOf t Field.blank = 0 ∷ 1 ∷ 0 ∷ t ∷ []
-answerOf t (Field.reads i x) = 0 ∷ i ∷ x ∷ (t - i) ∷ []
-answerOf t (Field.miscounted i u) = 4 ∷ []
-answerOf t (Field.beyond i) = 4 ∷ []
+abbrev pub answerOf : Shape → Field.Reading → List ℕ
+answerOf s Field.blank = cond (eqb (s .form) 0) (0 ∷ 1 ∷ 0 ∷ s .t ∷ []) (11 ∷ [])
+answerOf s (Field.reads i x) = 0 ∷ i ∷ x ∷ (s .t - i) ∷ []
+answerOf s (Field.miscounted i u) = 4 ∷ []
+answerOf s (Field.beyond i) = 4 ∷ []
 
 -- the groups of a field in the first n words
 abbrev pub fieldGroups : Shape → ℕ → List ℕ → List ℕ

@@ -232,20 +232,30 @@ fn writes_left(t: u64, i: u64) -> u64
     if t < i { 0 } else { t - i }
 }
 
-// A reading as it is answered: cells that were never written have generation 1, number 0 and all their writes left.
-fn answer(found: Found, t: u64) -> Reading
-    ensures { λ r. ⌜ readingOf r ≡ answerOf t (foundOf found) ⌝ }
+// Cells that were never written: in form 0 they have generation 1, number 0 and all their writes left, and else no number.
+fn answer_blank(s: Shape) -> Reading
+    ensures { λ r. ⌜ readingOf r ≡ answerOf s Field.blank ⌝ }
+{
+    if s.form != 0 {
+        return Reading::Refused(11);
+    }
+    Reading::Read {
+        generation: 1,
+        number: 0,
+        left: s.t,
+    }
+}
+
+// A reading as it is answered.
+fn answer(found: Found, s: Shape) -> Reading
+    ensures { λ r. ⌜ readingOf r ≡ answerOf s (foundOf found) ⌝ }
 {
     match found {
-        Found::Blank => Reading::Read {
-            generation: 1,
-            number: 0,
-            left: t,
-        },
+        Found::Blank => answer_blank(s),
         Found::Number { generation, number } => Reading::Read {
             generation,
             number,
-            left: writes_left(t, generation),
+            left: writes_left(s.t, generation),
         },
         Found::Miscounted {
             generation: _,
@@ -297,7 +307,7 @@ fn read_granted(h: &[u64; 16], s: Shape, cells: &[u8]) -> Reading
     let mut marks = [0u64; 16];
     let seen = look_at(h, s, cells, &mut words, &mut marks);
     let found = seen.found;
-    answer(found, s.t)
+    answer(found, s)
 }
 
 // The reading of a field whose layout is worked out, with its counts in h.

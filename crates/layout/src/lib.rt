@@ -30,7 +30,7 @@ pub struct Plan {
 pub fn first(s: Shape) -> u64
     ensures { λ r. ⌜ (r ≡ firstOf s) × (r ≤ 1) ⌝ }
 {
-    0
+    if s.form == 0 { 0 } else { 1 }
 }
 
 // The order of the bits in a byte.
@@ -186,7 +186,8 @@ fn grant(h: &mut [u64; 16], s: Shape, g: u64) -> u64
 fn outside(s: Shape, g: u64) -> bool
     ensures { λ r. ⌜ r ≡ outside s g ⌝ }
 {
-    !(((2 <= s.m) & (s.m <= 4))
+    !((s.form <= 1)
+        & ((2 <= s.m) & (s.m <= 4))
         & ((2 <= s.t) & (s.t <= 16))
         & ((2 <= s.v) & (s.v <= V_MAX))
         & (g <= 256))

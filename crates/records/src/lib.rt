@@ -37,11 +37,12 @@ pub fn read_head(dump: &[u8], at: usize) -> Head
     })
 }
 
-// The shape of a record's field.
+// The shape of a record's field: the old dump has form 0 alone.
 pub fn shape_of(whole: Record) -> Shape
     ensures { λ r. ⌜ r ≡ shapeOf whole ⌝ }
 {
     Shape {
+        form: 0,
         m: whole.m,
         t: whole.t,
         v: whole.v,

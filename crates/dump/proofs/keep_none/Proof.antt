@@ -8,7 +8,7 @@ use Rattle.code.proofs.LayoutCall.{reply-outside}
 use Rattle.dump.proofs.keep_none.Statement.{statement}
 use Rattle.dump.proofs.keep_none.Tie as tie
 
--- 0, 0, 0 are refused with the number 1
+-- the shape of zeros is refused with the number 1
 refused : 1 ∷ replicate 16 0 ≡ filled layoutFields (layoutReply (shaped 0 0 0) 256)
 unfolding outside
 refused = reply-outside (shaped 0 0 0) 256 refl

@@ -1,6 +1,7 @@
 -- `layout::first` meets its contract. Assumes nothing.
+use native.Mathlib.Omega.{arith}
+use borrow.Author.Tests.{ne-eqb}
 use Rattle.code.specs.Shape.{firstOf}
-use borrow.Author.Needs.{needs}
 use Rattle.layout.proofs.first.Statement.{statement}
 use Rattle.layout.proofs.first.Tie as tie
 
@@ -9,4 +10,7 @@ unfolding firstOf
 first-spec =
     tie.close
     (tie.spec
-    (λ c. search needs))
+    -- returns
+    (λ c. (rw (c .if1 .taken), omega arith))
+    -- returns-2
+    (λ c. (rw (ne-eqb _ 0 (c .if1 .left)), omega arith)))

@@ -1,0 +1,13 @@
+-- `field::answer_blank` meets its contract. Assumes nothing.
+use borrow.Author.Tests.{ne-eqb}
+use Rattle.field.proofs.answer_blank.Statement.{statement}
+use Rattle.field.proofs.answer_blank.Tie as tie
+
+pub answer-blank-spec : {M : Type 1} → statement M
+answer-blank-spec =
+    tie.close
+    (tie.spec
+    -- returns
+    (λ c. rw (ne-eqb _ 0 (c .if1 .taken)))
+    -- returns-2
+    (λ c. rw (c .if1 .left)))
