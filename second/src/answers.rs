@@ -3,7 +3,7 @@
 use crate::dump::{self, Ending, Record};
 use crate::field;
 use crate::hex;
-use crate::layout::{Layouts, Shape};
+use crate::layout::{Layouts, OldShape, Shape};
 use crate::protocol::{self, Call, Limits, Step};
 use crate::refusal::Refusal;
 use crate::values;
@@ -127,7 +127,7 @@ fn walk_lines(dump: &[u8], layouts: &mut Layouts) -> String {
 }
 
 fn record_line(record: &Record) -> String {
-    let Shape { m, t, v } = record.shape;
+    let OldShape { m, t, v } = record.shape;
     let given = format!(
         "record {} {} {} {} {} {}",
         record.serial,

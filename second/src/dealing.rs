@@ -15,13 +15,13 @@ pub struct Deal {
 }
 
 impl Deal {
-    /// "Generation 1: places are all h_1 groups, b = 2^m − 1, k from 0 to
-    /// h_1 − h_2."
-    pub fn first(erased: u64, count: usize, next: usize) -> Deal {
+    /// "Generation 1: places are all h_1 groups, b = 2^m − 1", k from `fewest`,
+    /// which the form decides, "to h_1 − h_2".
+    pub fn first(erased: u64, count: usize, next: usize, fewest: usize) -> Deal {
         Deal {
             places: count,
             base: erased,
-            fewest: 0,
+            fewest,
             most: count - next,
         }
     }

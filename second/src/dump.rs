@@ -2,7 +2,7 @@
 
 use crate::cells;
 use crate::field::{self, Reading};
-use crate::layout::{Layouts, Shape, GROUPS_OFFERED};
+use crate::layout::{Layouts, OldShape, GROUPS_OFFERED};
 use crate::refusal::Refusal;
 
 pub const LONGEST_DUMP: usize = 65_536;
@@ -37,7 +37,7 @@ pub fn number_in_front(bytes: &[u8]) -> Option<(u64, &[u8])> {
 }
 
 /// "A record is serial, m, t, v, n as numbers, then n bytes."
-pub fn record_bytes(serial: u64, shape: Shape, cells: &[u8]) -> Vec<u8> {
+pub fn record_bytes(serial: u64, shape: OldShape, cells: &[u8]) -> Vec<u8> {
     let numbers = [serial, shape.m, shape.t, shape.v, cells.len() as u64];
     let mut record: Vec<u8> = numbers.into_iter().flat_map(number_bytes).collect();
     record.extend_from_slice(cells);
@@ -48,7 +48,7 @@ pub fn record_bytes(serial: u64, shape: Shape, cells: &[u8]) -> Vec<u8> {
 /// of the record it stored at the front of the output.
 pub fn export(
     serial: u64,
-    shape: Shape,
+    shape: OldShape,
     cells: &[u8],
     output: &mut [u8],
     layouts: &mut Layouts,
@@ -56,7 +56,7 @@ pub fn export(
     if serial > LARGEST_SERIAL {
         return Err(Refusal::SerialOutOfBounds);
     }
-    let layout = layouts.grant(shape, GROUPS_OFFERED)?;
+    let layout = layouts.grant(shape.in_form_0(), GROUPS_OFFERED)?;
     cells::groups_of(&layout, cells)?;
     let record = record_bytes(serial, shape, cells);
     let front = output
@@ -71,7 +71,7 @@ pub fn export(
 #[derive(Clone, Debug, PartialEq, Eq)]
 pub struct Record<'dump> {
     pub serial: u64,
-    pub shape: Shape,
+    pub shape: OldShape,
     pub start: usize,
     pub cells: &'dump [u8],
     /// "Refusals 1 to 4 belong to that record and the walk goes on."
@@ -118,7 +118,7 @@ pub fn walk<'dump>(dump: &'dump [u8], layouts: &mut Layouts) -> Walk<'dump> {
             shape: header.shape,
             start: dump.len() - after.len() - cells.len(),
             cells,
-            outcome: field::read(header.shape, cells, layouts),
+            outcome: field::read(header.shape.in_form_0(), cells, layouts),
         });
         rest = after;
     }
@@ -128,7 +128,7 @@ pub fn walk<'dump>(dump: &'dump [u8], layouts: &mut Layouts) -> Walk<'dump> {
 
 struct Header {
     serial: u64,
-    shape: Shape,
+    shape: OldShape,
 }
 
 /// Header, cell bytes and what follows the record; nothing where it is
@@ -145,6 +145,6 @@ fn record_in_front(bytes: &[u8]) -> Option<(Header, &[u8], &[u8])> {
         return None;
     }
     let (cells, after) = bytes.split_at(n as usize);
-    let shape = Shape { m, t, v };
+    let shape = OldShape { m, t, v };
     Some((Header { serial, shape }, cells, after))
 }

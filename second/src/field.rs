@@ -21,10 +21,14 @@ pub struct Written {
     pub cells: Vec<u8>,
 }
 
-/// Refusals in the order 1, 2, 3, 4.
+/// Refusals in the order 1, 2, 3, 11, 4.
 pub fn read(shape: Shape, cells: &[u8], layouts: &mut Layouts) -> Result<Reading, Refusal> {
     let layout = layouts.grant(shape, GROUPS_OFFERED)?;
     let groups = cells::groups_of(&layout, cells)?;
+    // "Reading blank form 1 cells gives 11, after 3."
+    if is_blank(&groups) && !layout.blank_is_a_pattern() {
+        return Err(Refusal::Blank);
+    }
     reading_of(&layout, &groups, &mut layouts.counting).ok_or(Refusal::NoReading)
 }
 
@@ -42,15 +46,7 @@ pub fn write(
         return Err(Refusal::NumberOutOfRange);
     }
     let counting = &mut layouts.counting;
-    let reading = reading_of(&layout, &groups, counting).ok_or(Refusal::NoReading)?;
-    let generation = if is_blank(&groups) {
-        1
-    } else {
-        reading.generation + 1
-    };
-    if generation > layout.generations() {
-        return Err(Refusal::LastGenerationUsed);
-    }
+    let generation = generation_to_write(&layout, &groups, counting)?;
     let prepared = prepared_for(generation, &layout, groups);
     let pattern = pattern_for(generation, &layout, &Whole::from(number), counting)
         .expect("conditions b to d leave a pattern for every number below v");
@@ -60,6 +56,23 @@ pub fn write(
         turned: cells::ones(&after) - cells::ones(cells),
         cells: after,
     })
+}
+
+/// "All-zero cells are written at generation 1", in form 1 too, where they have no
+/// reading. "Cells read as generation i < t are written at i + 1."
+fn generation_to_write(
+    layout: &Layout,
+    groups: &[u64],
+    counting: &mut Counting,
+) -> Result<usize, Refusal> {
+    if is_blank(groups) {
+        return Ok(1);
+    }
+    let reading = reading_of(layout, groups, counting).ok_or(Refusal::NoReading)?;
+    if reading.generation == layout.generations() {
+        return Err(Refusal::LastGenerationUsed);
+    }
+    Ok(reading.generation + 1)
 }
 
 fn is_blank(groups: &[u64]) -> bool {

@@ -1,4 +1,5 @@
-//! "Layout": the bounds, conditions a to d, and the least list that meets them.
+//! "Layout": the bounds, conditions a to d, and the least list that meets them,
+//! in both forms of document 02's "A new drive is not a zero".
 
 use crate::counting::Counting;
 use crate::dealing::Deal;
@@ -7,6 +8,8 @@ use crate::whole::Whole;
 use std::collections::HashMap;
 use std::ops::RangeInclusive;
 
+/// "A form above 1 is refusal 1."
+const FORM_BOUNDS: RangeInclusive<u64> = 0..=1;
 const GROUP_BOUNDS: RangeInclusive<u64> = 2..=4;
 const GENERATION_BOUNDS: RangeInclusive<u64> = 2..=16;
 const RANGE_BOUNDS: RangeInclusive<u64> = 2..=1 << 56;
@@ -15,17 +18,39 @@ const OFFERED_BOUNDS: RangeInclusive<u64> = 0..=256;
 /// "Read, write and export ask for their layout with g = 256."
 pub const GROUPS_OFFERED: u64 = 256;
 
-/// m, t and v as they are asked for, within their bounds or not.
+/// The form, m, t and v as they are asked for, within their bounds or not.
 #[derive(Clone, Copy, Debug, PartialEq, Eq, Hash)]
 pub struct Shape {
+    pub form: u64,
     pub m: u64,
     pub t: u64,
     pub v: u64,
 }
 
+/// What the old export is given of a field and an old record tells of it: "Form 1
+/// cells aren't dumped".
+#[derive(Clone, Copy, Debug, PartialEq, Eq)]
+pub struct OldShape {
+    pub m: u64,
+    pub t: u64,
+    pub v: u64,
+}
+
+impl OldShape {
+    pub fn in_form_0(self) -> Shape {
+        Shape {
+            form: 0,
+            m: self.m,
+            t: self.t,
+            v: self.v,
+        }
+    }
+}
+
 impl Shape {
     fn is_within_bounds(&self) -> bool {
-        GROUP_BOUNDS.contains(&self.m)
+        FORM_BOUNDS.contains(&self.form)
+            && GROUP_BOUNDS.contains(&self.m)
             && GENERATION_BOUNDS.contains(&self.t)
             && RANGE_BOUNDS.contains(&self.v)
     }
@@ -33,6 +58,15 @@ impl Shape {
     /// 2^m − 1, the value of an erased group.
     fn erased(&self) -> u64 {
         (1 << self.m) - 1
+    }
+
+    /// Document 01's "k from 0", and in form 1 "generation 1 writes k from 1, and
+    /// the sum in condition b starts at 1".
+    fn fewest_at_first(&self) -> usize {
+        match self.form {
+            0 => 0,
+            _ => 1,
+        }
     }
 }
 
@@ -69,6 +103,12 @@ impl Layout {
         self.shape.erased()
     }
 
+    /// Whether blank cells are a pattern of generation 1, the one that writes no
+    /// place.
+    pub fn blank_is_a_pattern(&self) -> bool {
+        self.shape.fewest_at_first() == 0
+    }
+
     pub fn wits_in_group(&self) -> usize {
         self.shape.m as usize
     }
@@ -82,7 +122,7 @@ impl Layout {
         let count = self.count(generation);
         let next = *self.counts.get(generation)?;
         Some(match generation {
-            1 => Deal::first(self.erased(), count, next),
+            1 => Deal::first(self.erased(), count, next, self.shape.fewest_at_first()),
             _ => Deal::middle(self.erased(), count, next),
         })
     }
@@ -151,8 +191,9 @@ fn least_list(shape: Shape, counting: &mut Counting) -> Vec<usize> {
         });
         from_last.push(next);
     }
+    let fewest = shape.fewest_at_first();
     from_last.push(least_count_from(next + 1, |count| {
-        Deal::first(erased, count, next).room(counting) >= range
+        Deal::first(erased, count, next, fewest).room(counting) >= range
     }));
     from_last.reverse();
     from_last

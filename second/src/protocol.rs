@@ -2,7 +2,7 @@
 //! as eight bytes each from the low one up, and cells, a dump or a text as one
 //! number more, which counts them, and the bytes themselves.
 
-use crate::layout::Shape;
+use crate::layout::{OldShape, Shape};
 use std::io::{self, ErrorKind, Read};
 
 /// How much a call may hold.
@@ -51,7 +51,7 @@ pub enum Call {
     },
     Export {
         serial: u64,
-        shape: Shape,
+        shape: OldShape,
         output_length: u64,
         cells: Vec<u8>,
     },
@@ -141,7 +141,7 @@ fn call_after(operation: u8, stream: &mut impl Read, limits: Limits) -> Result<C
         }),
         4 => Ok(Call::Export {
             serial: number(stream)?,
-            shape: shape(stream)?,
+            shape: old_shape(stream)?,
             output_length: number_up_to(limits.output, stream)?,
             cells: counted_bytes(limits, stream)?,
         }),
@@ -176,6 +176,15 @@ fn number_up_to(most: u64, stream: &mut impl Read) -> Result<u64, Failure> {
 
 fn shape(stream: &mut impl Read) -> Result<Shape, Failure> {
     Ok(Shape {
+        form: number(stream)?,
+        m: number(stream)?,
+        t: number(stream)?,
+        v: number(stream)?,
+    })
+}
+
+fn old_shape(stream: &mut impl Read) -> Result<OldShape, Failure> {
+    Ok(OldShape {
         m: number(stream)?,
         t: number(stream)?,
         v: number(stream)?,
@@ -204,13 +213,19 @@ impl Call {
 
     fn parts(&self) -> (u8, Vec<u64>, Option<&[u8]>) {
         match self {
-            Call::Layout { shape, offered } => (1, vec![shape.m, shape.t, shape.v, *offered], None),
-            Call::Read { shape, cells } => (2, vec![shape.m, shape.t, shape.v], Some(cells)),
+            Call::Layout { shape, offered } => {
+                (1, [&numbers_of(shape)[..], &[*offered]].concat(), None)
+            }
+            Call::Read { shape, cells } => (2, numbers_of(shape).to_vec(), Some(cells)),
             Call::Write {
                 shape,
                 number,
                 cells,
-            } => (3, vec![shape.m, shape.t, shape.v, *number], Some(cells)),
+            } => (
+                3,
+                [&numbers_of(shape)[..], &[*number]].concat(),
+                Some(cells),
+            ),
             Call::Export {
                 serial,
                 shape,
@@ -236,14 +251,14 @@ impl Call {
     /// The call in words, for a person who looks into a difference.
     pub fn meaning(&self) -> String {
         match self {
-            Call::Layout { shape, offered } => format!("layout {}, g {}", numbers(shape), offered),
-            Call::Read { shape, cells } => format!("read {}, {}", numbers(shape), of_cells(cells)),
+            Call::Layout { shape, offered } => format!("layout {}, g {}", words(shape), offered),
+            Call::Read { shape, cells } => format!("read {}, {}", words(shape), of_cells(cells)),
             Call::Write {
                 shape,
                 number,
                 cells,
             } => {
-                let given = format!("{}, number {}", numbers(shape), number);
+                let given = format!("{}, number {}", words(shape), number);
                 format!("write {}, {}", given, of_cells(cells))
             }
             Call::Export {
@@ -252,7 +267,7 @@ impl Call {
                 output_length,
                 cells,
             } => {
-                let given = format!("serial {}, {}", serial, numbers(shape));
+                let given = format!("serial {}, {}", serial, old_words(shape));
                 format!(
                     "export {}, {}, {}",
                     given,
@@ -281,7 +296,17 @@ fn of_cells(cells: &[u8]) -> String {
     format!("{} of cells", counted(cells))
 }
 
-fn numbers(shape: &Shape) -> String {
+/// In the order in which the stream has them.
+fn numbers_of(shape: &Shape) -> [u64; 4] {
+    [shape.form, shape.m, shape.t, shape.v]
+}
+
+fn words(shape: &Shape) -> String {
+    let [form, m, t, v] = numbers_of(shape);
+    format!("form {}, m {}, t {}, v {}", form, m, t, v)
+}
+
+fn old_words(shape: &OldShape) -> String {
     format!("m {}, t {}, v {}", shape.m, shape.t, shape.v)
 }
 

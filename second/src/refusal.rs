@@ -16,6 +16,8 @@ pub enum Refusal {
     TooManyBytes = 8,
     OutputTooShort = 9,
     SerialOutOfBounds = 10,
+    /// Of a read in form 1.
+    Blank = 11,
     LineShape = 20,
     WrongSum = 21,
     DataOutside = 22,

@@ -3,10 +3,10 @@
 use crate::cells;
 use crate::dump::record_bytes;
 use crate::field;
-use crate::layout::{Layouts, Shape, GROUPS_OFFERED};
+use crate::layout::{Layouts, OldShape, GROUPS_OFFERED};
 use crate::refusal::Refusal;
 
-const COUNTER: Shape = Shape {
+const COUNTER: OldShape = OldShape {
     m: 2,
     t: 10,
     v: 1 << 56,
@@ -29,15 +29,16 @@ pub fn sample_dump(layouts: &mut Layouts) -> Result<Vec<u8>, Refusal> {
     for (serial, cells) in fields {
         dump.extend(record_bytes(serial, COUNTER, &cells));
     }
-    dump.extend(record_bytes(77, Shape { m: 2, t: 3, v: 4 }, &[0x4f]));
+    dump.extend(record_bytes(77, OldShape { m: 2, t: 3, v: 4 }, &[0x4f]));
     Ok(dump)
 }
 
 fn counter_after(numbers: &[u64], layouts: &mut Layouts) -> Result<Vec<u8>, Refusal> {
-    let layout = layouts.grant(COUNTER, GROUPS_OFFERED)?;
+    let shape = COUNTER.in_form_0();
+    let layout = layouts.grant(shape, GROUPS_OFFERED)?;
     let mut cells = vec![0; cells::byte_count(&layout)];
     for number in numbers {
-        cells = field::write(COUNTER, *number, &cells, layouts)?.cells;
+        cells = field::write(shape, *number, &cells, layouts)?.cells;
     }
     Ok(cells)
 }

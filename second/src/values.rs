@@ -17,7 +17,8 @@ pub fn figures(layouts: &mut Layouts) -> String {
 
 fn figure(m: u64, t: u64, layouts: &mut Layouts) -> String {
     let v = PUBLISHED_RANGE;
-    match layouts.grant(Shape { m, t, v }, GROUPS_OFFERED) {
+    let shape = Shape { form: 0, m, t, v };
+    match layouts.grant(shape, GROUPS_OFFERED) {
         Ok(layout) => format!("{} {} {}: {}, {}\n", m, t, v, list(&layout), layout.wits()),
         Err(refusal) => format!("{} {} {}: refused {}\n", m, t, v, refusal.number()),
     }

@@ -6,11 +6,21 @@ use second::layout::{Layouts, Shape};
 use second::listing::fieldlist;
 use second::refusal::Refusal;
 
-const RANGE_4: Shape = Shape { m: 2, t: 3, v: 4 };
-const RANGE_20: Shape = Shape { m: 2, t: 2, v: 20 };
+const RANGE_4: Shape = Shape {
+    form: 0,
+    m: 2,
+    t: 3,
+    v: 4,
+};
+const RANGE_20: Shape = Shape {
+    form: 0,
+    m: 2,
+    t: 2,
+    v: 20,
+};
 
 fn granted(m: u64, t: u64, v: u64, offered: u64) -> Result<Vec<usize>, Refusal> {
-    let layout = Layouts::default().grant(Shape { m, t, v }, offered);
+    let layout = Layouts::default().grant(Shape { form: 0, m, t, v }, offered);
     layout.map(|layout| layout.counts().to_vec())
 }
 
@@ -45,6 +55,7 @@ fn published_lists_of_the_layout_section() {
     assert_eq!(granted(2, 2, 1 << 56, 256), Ok(vec![49, 36]));
     assert_eq!(granted(3, 2, 1 << 56, 256), Ok(vec![31, 20]));
     let shape = Shape {
+        form: 0,
         m: 3,
         t: 2,
         v: 1 << 56,

@@ -2,10 +2,10 @@
 
 use second::dump::{self, Ending};
 use second::field::Reading;
-use second::layout::{Layouts, Shape};
+use second::layout::{Layouts, OldShape};
 use second::refusal::Refusal;
 
-const SHAPE: Shape = Shape { m: 2, t: 3, v: 4 };
+const SHAPE: OldShape = OldShape { m: 2, t: 3, v: 4 };
 const LARGEST: u64 = (1 << 63) - 1;
 
 fn outcomes(dump: &[u8]) -> (Vec<Result<Reading, Refusal>>, Ending) {
@@ -82,7 +82,7 @@ fn a_cut_off_dump_stops_at_the_first_byte_of_its_last_record() {
     let first = dump::record_bytes(300, SHAPE, &[0x03]);
     let second = dump::record_bytes(
         LARGEST,
-        Shape {
+        OldShape {
             v: 1 << 56,
             ..SHAPE
         },
@@ -109,7 +109,7 @@ fn a_cut_off_dump_stops_at_the_first_byte_of_its_last_record() {
 
 #[test]
 fn the_walk_goes_on_after_refusals_1_3_and_4() {
-    let bad_shape = Shape {
+    let bad_shape = OldShape {
         m: LARGEST,
         ..SHAPE
     };
@@ -159,7 +159,7 @@ fn a_dump_of_full_size_is_walked_and_a_longer_one_refused() {
 #[test]
 fn a_record_tells_where_its_cells_are() {
     let cells = [0xc1, 0xc0];
-    let shape = Shape { m: 2, t: 2, v: 20 };
+    let shape = OldShape { m: 2, t: 2, v: 20 };
     let dump = [
         dump::record_bytes(300, shape, &cells),
         dump::record_bytes(9, SHAPE, &[0x4f]),
@@ -175,7 +175,7 @@ fn a_record_tells_where_its_cells_are() {
 
 fn export(
     serial: u64,
-    shape: Shape,
+    shape: OldShape,
     cells: &[u8],
     length: usize,
 ) -> (Result<usize, Refusal>, Vec<u8>) {
@@ -201,8 +201,8 @@ fn export_fills_the_front_of_its_output() {
 
 #[test]
 fn export_refuses_in_the_order_10_1_3_9() {
-    let bad_shape = Shape { t: 17, ..SHAPE };
-    let refusal = |serial: u64, shape: Shape, cells: &[u8]| export(serial, shape, cells, 0).0;
+    let bad_shape = OldShape { t: 17, ..SHAPE };
+    let refusal = |serial: u64, shape: OldShape, cells: &[u8]| export(serial, shape, cells, 0).0;
     let first = refusal(LARGEST + 1, bad_shape, &[]);
     assert_eq!(first, Err(Refusal::SerialOutOfBounds));
     assert_eq!(refusal(LARGEST, bad_shape, &[]), Err(Refusal::OutOfBounds));

@@ -234,7 +234,7 @@ fn check_writes(field: &Field, cells: &[u8], layouts: &mut Layouts) {
 fn every_buffer_of_small_fields() {
     let mut layouts = Layouts::default();
     for (m, t, v, counts) in FIELDS {
-        let shape = Shape { m, t, v };
+        let shape = Shape { form: 0, m, t, v };
         let granted = layouts
             .grant(shape, 256)
             .map(|layout| layout.counts().to_vec());
@@ -258,7 +258,7 @@ fn every_buffer_of_small_fields() {
 fn buffers_of_another_byte_count_are_refused() {
     let mut layouts = Layouts::default();
     for (m, t, v, counts) in FIELDS {
-        let shape = Shape { m, t, v };
+        let shape = Shape { form: 0, m, t, v };
         let due = (m as usize * counts[0] + 7) / 8;
         for count in (0..5).filter(|count| *count != due) {
             let cells = vec![0; count];

@@ -50,7 +50,7 @@ fn the_granted_list_is_the_least_of_all() {
             let lists = falling_lists(t, HIGHEST_COUNT);
             for v in (2..=90).chain([242, 243, 342, 343, 3_374, 3_375]) {
                 let t = t as u64;
-                let shape = Shape { m, t, v };
+                let shape = Shape { form: 0, m, t, v };
                 let meeting: Vec<&Vec<usize>> =
                     lists.iter().filter(|list| meets(list, shape)).collect();
                 let granted = layouts.grant(shape, HIGHEST_COUNT as u64);

@@ -3,11 +3,17 @@
 use second::answers;
 use second::comparing::{compare, Comparison, Stream};
 use second::dump;
-use second::layout::{Layouts, Shape};
+use second::layout::{Layouts, OldShape, Shape};
 use second::protocol::{self, Call, Limits, Step};
 use second::stream::Maker;
 
-const SHAPE: Shape = Shape { m: 2, t: 3, v: 4 };
+const OLD_SHAPE: OldShape = OldShape { m: 2, t: 3, v: 4 };
+const SHAPE: Shape = Shape {
+    form: 0,
+    m: 2,
+    t: 3,
+    v: 4,
+};
 
 fn answered(stream: &[u8]) -> String {
     answered_within(Limits::USUAL, stream)
@@ -42,7 +48,7 @@ fn read_call(cells: &[u8]) -> Call {
 fn export_call(serial: u64, output_length: u64, cells: &[u8]) -> Call {
     Call::Export {
         serial,
-        shape: SHAPE,
+        shape: OLD_SHAPE,
         output_length,
         cells: cells.to_vec(),
     }
@@ -97,8 +103,8 @@ fn lines_of_write_and_export() {
 
 #[test]
 fn lines_of_walks() {
-    let record = dump::record_bytes(300, SHAPE, &[0x23]);
-    let refused = dump::record_bytes(1, SHAPE, &[]);
+    let record = dump::record_bytes(300, OLD_SHAPE, &[0x23]);
+    let refused = dump::record_bytes(1, OLD_SHAPE, &[]);
     let dump = [record, refused, vec![0x80]].concat();
     let due = "record 300 2 3 4 6 1 0 2 3 1\nrecord 1 2 3 4 12 0 3\nstop 7 12\n";
     assert_eq!(line_of(walk_call(&dump)), due);
@@ -196,7 +202,7 @@ fn larger_limits() {
 }
 
 fn sample_stream() -> Vec<u8> {
-    let dump = dump::record_bytes(300, SHAPE, &[0x23]);
+    let dump = dump::record_bytes(300, OLD_SHAPE, &[0x23]);
     let calls = [
         layout_call(4, 4),
         write_call(3, &[0]),
@@ -233,7 +239,7 @@ fn a_difference_is_reported_with_its_replay() {
     let other = answered(&stream).replace("write 0 1 2 03", "write 0 1 1 03");
     let report = report_of(&stream, &other);
     let lines: Vec<&str> = report.lines().collect();
-    let meaning = "call 2: write m 2, t 3, v 4, number 3, 1 byte of cells";
+    let meaning = "call 2: write form 0, m 2, t 3, v 4, number 3, 1 byte of cells";
     assert_eq!(lines[0], meaning);
     assert_eq!(lines[2], "here: write 0 1 2 03");
     assert_eq!(lines[3], "there: write 0 1 1 03");

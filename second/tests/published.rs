@@ -22,7 +22,7 @@ const TABLE: [(u64, usize, usize); 9] = [
 const EXAMPLE: [usize; 10] = [139, 130, 120, 110, 99, 88, 76, 64, 51, 36];
 
 fn granted(m: u64, t: u64, v: u64, layouts: &mut Layouts) -> Layout {
-    let layout = layouts.grant(Shape { m, t, v }, 256);
+    let layout = layouts.grant(Shape { form: 0, m, t, v }, 256);
     layout.expect("the shape is within bounds and fits in 256 groups")
 }
 

@@ -61,13 +61,14 @@ fn kinds(seed: u64) -> HashSet<String> {
 }
 
 /// But for the accepted reads and writes, which tell their generation.
-const KINDS: [&str; 33] = [
+const KINDS: [&str; 34] = [
     "layout 0",
     "layout 1",
     "layout 2",
     "read 1",
     "read 3",
     "read 4",
+    "read 11",
     "write 1",
     "write 3",
     "write 4",
@@ -138,10 +139,10 @@ fn chains_go_from_blank_cells_to_the_end_and_past_it() {
 
 fn shape_of(call: &Call) -> Option<Shape> {
     match call {
-        Call::Layout { shape, .. }
-        | Call::Read { shape, .. }
-        | Call::Write { shape, .. }
-        | Call::Export { shape, .. } => Some(*shape),
+        Call::Layout { shape, .. } | Call::Read { shape, .. } | Call::Write { shape, .. } => {
+            Some(*shape)
+        }
+        Call::Export { shape, .. } => Some(shape.in_form_0()),
         Call::Walk { .. } | Call::HexExport { .. } | Call::HexImport { .. } => None,
     }
 }

@@ -10,31 +10,37 @@ use second::whole::Whole;
 
 const SHAPES: [Shape; 6] = [
     Shape {
+        form: 0,
         m: 2,
         t: 10,
         v: 1 << 56,
     },
     Shape {
+        form: 0,
         m: 2,
         t: 16,
         v: (1 << 56) - 1,
     },
     Shape {
+        form: 0,
         m: 3,
         t: 2,
         v: 1 << 56,
     },
     Shape {
+        form: 0,
         m: 3,
         t: 7,
         v: 1 << 40,
     },
     Shape {
+        form: 0,
         m: 4,
         t: 16,
         v: 1 << 56,
     },
     Shape {
+        form: 0,
         m: 4,
         t: 3,
         v: 1_000_003,

@@ -3,7 +3,7 @@
 use super::shapes::BOUNDARY_NUMBERS;
 use super::Maker;
 use crate::dump::{self, LARGEST_SERIAL};
-use crate::layout::Shape;
+use crate::layout::OldShape;
 
 /// Which of a record's five numbers is n.
 const COUNT: usize = 4;
@@ -40,14 +40,14 @@ impl Maker {
     /// A whole record, its cells readable or not.
     fn record(&mut self) -> Vec<u8> {
         let shape = self.shape_of_a_record();
-        let cells = self.cells(shape);
+        let cells = self.cells(shape.in_form_0());
         dump::record_bytes(self.serial(), shape, &cells)
     }
 
     /// Nine bytes hold no number above the largest serial.
-    fn shape_of_a_record(&mut self) -> Shape {
-        let shape = self.shape();
-        Shape {
+    fn shape_of_a_record(&mut self) -> OldShape {
+        let shape = self.old_shape();
+        OldShape {
             m: shape.m.min(LARGEST_SERIAL),
             t: shape.t.min(LARGEST_SERIAL),
             v: shape.v.min(LARGEST_SERIAL),
@@ -82,8 +82,8 @@ impl Maker {
     }
 
     fn odd_record(&mut self) -> Vec<u8> {
-        let shape = self.shape();
-        let cells = self.cells(shape);
+        let shape = self.old_shape();
+        let cells = self.cells(shape.in_form_0());
         let numbers = [self.serial(), shape.m, shape.t, shape.v, cells.len() as u64];
         // n is the number that a reader acts on, so it is odd most often.
         let odd = match self.chance.one_in(3) {

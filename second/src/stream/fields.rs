@@ -7,8 +7,11 @@ use crate::layout::{Layout, Shape, GROUPS_OFFERED};
 use crate::whole::Whole;
 
 impl Maker {
-    /// Cells for a shape; a shape without a layout gets a few bytes.
+    /// Cells for a shape; a shape without a layout gets a few bytes. Where the form
+    /// alone is beyond its bounds they are those of form 1, so that it decides.
     pub fn cells(&mut self, shape: Shape) -> Vec<u8> {
+        let form = shape.form.min(1);
+        let shape = Shape { form, ..shape };
         let layout = match self.layouts.grant(shape, GROUPS_OFFERED) {
             Ok(layout) => layout,
             Err(_) => {
@@ -44,6 +47,14 @@ impl Maker {
 
     pub fn number_in_range(&mut self, range: u64) -> u64 {
         self.chance.between(0, range.saturating_sub(1))
+    }
+
+    /// Cells that are blank or written, and then damaged.
+    fn sound_cells(&mut self, shape: Shape, layout: &Layout) -> Vec<u8> {
+        match self.chance.one_in(4) {
+            true => vec![0; cells::byte_count(layout)],
+            false => self.written_cells(shape, layout),
+        }
     }
 
     /// Cells after some accepted writes from blank ones.
@@ -134,7 +145,7 @@ impl Maker {
     }
 
     fn cells_with_wrong_bytes(&mut self, shape: Shape, layout: &Layout) -> Vec<u8> {
-        let mut cells = self.written_cells(shape, layout);
+        let mut cells = self.sound_cells(shape, layout);
         let left_over = 8 * cells.len() - layout.wits();
         match self.chance.between(1, 10) {
             1..=2 => cells.push(0),

@@ -2,6 +2,7 @@
 
 mod chance;
 mod dumps;
+mod exact_sums;
 mod fields;
 mod hex;
 mod hex_damage;
@@ -10,7 +11,7 @@ mod shapes;
 use crate::cells;
 use crate::dump::{self, LARGEST_SERIAL, LONGEST_DUMP};
 use crate::field;
-use crate::layout::{Layouts, GROUPS_OFFERED};
+use crate::layout::{Layouts, Shape, GROUPS_OFFERED};
 use crate::protocol::{Call, Limits};
 use chance::Chance;
 use std::collections::VecDeque;
@@ -25,6 +26,9 @@ pub struct Maker {
     chance: Chance,
     limits: Limits,
     layouts: Layouts,
+    exact_sums: Vec<Shape>,
+    /// Which of the exact sums is the next to be laid out.
+    next_sum: usize,
     calls_made: u64,
     waiting: VecDeque<Call>,
 }
@@ -44,10 +48,14 @@ pub fn write_stream(
 
 impl Maker {
     pub fn new(seed: u64, limits: Limits) -> Maker {
+        let mut layouts = Layouts::default();
+        let exact_sums = exact_sums::shapes(&mut layouts.counting);
         Maker {
             chance: Chance::new(seed),
             limits,
-            layouts: Layouts::default(),
+            layouts,
+            exact_sums,
+            next_sum: 0,
             calls_made: 0,
             waiting: VecDeque::new(),
         }
@@ -76,14 +84,15 @@ impl Maker {
     }
 
     fn make_calls(&mut self) {
-        let call = match self.chance.between(1, 114) {
+        let call = match self.chance.between(1, 130) {
             1..=16 => self.layout_call(),
-            17..=38 => self.read_call(),
-            39..=54 => self.write_call(),
-            55..=58 => return self.make_chain(),
-            59..=74 => self.export_call(),
-            75..=100 => Call::Walk { dump: self.dump() },
-            101..=104 => self.hex_export_call(),
+            17..=42 => self.read_call(),
+            43..=64 => self.write_call(),
+            65..=70 => return self.make_chain(),
+            71..=74 => return self.make_layouts_around_a_sum(),
+            75..=90 => self.export_call(),
+            91..=116 => Call::Walk { dump: self.dump() },
+            117..=120 => self.hex_export_call(),
             _ => self.hex_import_call(),
         };
         self.waiting.push_back(call);
@@ -99,6 +108,21 @@ impl Maker {
         let shape = self.shape();
         let offered = self.offered(shape);
         Call::Layout { shape, offered }
+    }
+
+    /// Both forms at a range that is a sum of condition b exactly, at one below and
+    /// at one above. The sums are taken one after the other.
+    fn make_layouts_around_a_sum(&mut self) {
+        let exact = self.exact_sums[self.next_sum];
+        self.next_sum = (self.next_sum + 1) % self.exact_sums.len();
+        for v in [exact.v - 1, exact.v, exact.v + 1] {
+            for form in [0, 1] {
+                self.waiting.push_back(Call::Layout {
+                    shape: Shape { form, v, ..exact },
+                    offered: GROUPS_OFFERED,
+                });
+            }
+        }
     }
 
     fn read_call(&mut self) -> Call {
@@ -119,8 +143,8 @@ impl Maker {
     }
 
     /// Writes from blank cells to the last generation and past it, each to the
-    /// cells that the one before left. Opening zeros use no generation, and a
-    /// number out of range or a read in between changes nothing.
+    /// cells that the one before left. In form 0 opening zeros use no generation;
+    /// a number out of range or a read in between changes nothing.
     fn make_chain(&mut self) {
         let shape = self.shape();
         let layout = match self.layouts.grant(shape, GROUPS_OFFERED) {
@@ -135,6 +159,10 @@ impl Maker {
                 1 => self.number_to_write(shape.v),
                 _ => self.number_in_range(shape.v),
             };
+            if self.chance.one_in(4) {
+                let cells = cells.clone();
+                self.waiting.push_back(Call::Read { shape, cells });
+            }
             self.waiting.push_back(Call::Write {
                 shape,
                 number,
@@ -143,16 +171,12 @@ impl Maker {
             if let Ok(written) = field::write(shape, number, &cells, &mut self.layouts) {
                 cells = written.cells;
             }
-            if self.chance.one_in(4) {
-                let cells = cells.clone();
-                self.waiting.push_back(Call::Read { shape, cells });
-            }
         }
     }
 
     fn export_call(&mut self) -> Call {
-        let shape = self.shape();
-        let cells = self.cells(shape);
+        let shape = self.old_shape();
+        let cells = self.cells(shape.in_form_0());
         let serial = match self.chance.between(1, 12) {
             1 => self.chance.pick(&[LARGEST_SERIAL + 1, u64::MAX]),
             _ => self.serial(),

@@ -1,12 +1,13 @@
-//! m, t, v and g for made calls: within their bounds, at them and beyond.
+//! Forms, m, t, v and g for made calls: within their bounds, at them and beyond.
 
 use super::Maker;
-use crate::layout::{Shape, GROUPS_OFFERED};
+use crate::layout::{OldShape, Shape, GROUPS_OFFERED};
 
 pub const LARGEST_RANGE: u64 = 1 << 56;
 
 /// "278 wits", the field of 003's Example 1.
 pub const PUBLISHED: Shape = Shape {
+    form: 0,
     m: 2,
     t: 10,
     v: LARGEST_RANGE,
@@ -43,20 +44,50 @@ pub const BOUNDARY_NUMBERS: [u64; 26] = [
     u64::MAX,
 ];
 
+/// Some are 0 or 1 if only their low 8 or 32 bits are looked at.
+pub const FORMS_BEYOND: [u64; 9] = [
+    2,
+    3,
+    255,
+    256,
+    257,
+    1 << 32,
+    (1 << 32) + 1,
+    1 << 63,
+    u64::MAX,
+];
+
 impl Maker {
     pub fn shape(&mut self) -> Shape {
-        match self.chance.between(1, 100) {
+        let form = match self.chance.between(1, 20) {
+            1..=8 => 0,
+            9..=19 => 1,
+            _ => self.chance.pick(&FORMS_BEYOND),
+        };
+        let shape = self.shape_of_form_0();
+        Shape { form, ..shape }
+    }
+
+    pub fn old_shape(&mut self) -> OldShape {
+        let Shape { m, t, v, .. } = self.shape_of_form_0();
+        OldShape { m, t, v }
+    }
+
+    fn shape_of_form_0(&mut self) -> Shape {
+        match self.chance.between(1, 104) {
             1..=36 => self.small_shape(),
             37..=56 => PUBLISHED,
             57..=70 => self.shape_within_bounds(),
             71..=82 => self.shape_where_a_count_changes(),
             83..=92 => self.corner_shape(),
+            93..=96 => self.chance.pick(&self.exact_sums),
             _ => self.shape_beyond_bounds(),
         }
     }
 
     fn small_shape(&mut self) -> Shape {
         Shape {
+            form: 0,
             m: self.chance.between(2, 4),
             t: self.chance.between(2, 4),
             v: self.chance.between(2, 40),
@@ -65,6 +96,7 @@ impl Maker {
 
     fn shape_within_bounds(&mut self) -> Shape {
         Shape {
+            form: 0,
             m: self.chance.between(2, 4),
             t: self.chance.between(2, 16),
             v: self.chance.of_any_length(56).max(2),
@@ -74,6 +106,7 @@ impl Maker {
     fn corner_shape(&mut self) -> Shape {
         let ranges = [2, 3, LARGEST_RANGE - 1, LARGEST_RANGE, LARGEST_RANGE + 1];
         Shape {
+            form: 0,
             m: self.chance.between(2, 4),
             t: self.chance.pick(&[2, 3, 15, 16]),
             v: self.chance.pick(&ranges),
