@@ -14,7 +14,8 @@ fn sum(count: usize, from: usize, to: usize, base: u128) -> u128 {
     terms.map(|k| choose(count, k) * base.pow(k as u32)).sum()
 }
 
-/// Conditions a to d, word for word; 128 bits are enough up to the bound.
+/// Conditions a to d, word for word, b from k = 0 in form 0 and from k = 1 in form
+/// 1; 128 bits are enough up to the bound.
 fn meets(list: &[usize], shape: Shape) -> bool {
     let v = u128::from(shape.v);
     let nonzero = (1 << shape.m) - 1;
@@ -22,7 +23,7 @@ fn meets(list: &[usize], shape: Shape) -> bool {
     let last_room = u128::pow(nonzero, list[t - 1] as u32) - 1;
     let falls = list.windows(2).all(|pair| pair[0] > pair[1]) && list[t - 1] > 0;
     falls
-        && sum(list[0], 0, list[0] - list[1], nonzero) >= v
+        && sum(list[0], shape.form as usize, list[0] - list[1], nonzero) >= v
         && (1..t - 1).all(|i| sum(list[i], 1, list[i] - list[i + 1], nonzero - 1) >= v)
         && last_room >= v
 }
@@ -41,31 +42,41 @@ fn falling_lists(length: usize, highest: usize) -> Vec<Vec<usize>> {
     lists
 }
 
+/// Holds the granted list against those of `lists` that meet the conditions; true
+/// where one was granted.
+fn check_least(shape: Shape, lists: &[Vec<usize>], layouts: &mut Layouts) -> bool {
+    let meeting: Vec<&Vec<usize>> = lists.iter().filter(|list| meets(list, shape)).collect();
+    let layout = match layouts.grant(shape, HIGHEST_COUNT as u64) {
+        Ok(layout) => layout,
+        Err(_) => {
+            assert!(meeting.is_empty());
+            return false;
+        }
+    };
+    assert!(meeting.contains(&&layout.counts().to_vec()));
+    let is_least = |list: &Vec<usize>| {
+        let mut pairs = layout.counts().iter().zip(list);
+        pairs.all(|(least, count)| least <= count)
+    };
+    assert!(meeting.iter().all(|list| is_least(list)));
+    true
+}
+
 #[test]
 fn the_granted_list_is_the_least_of_all() {
     let mut layouts = Layouts::default();
-    let mut tried = 0;
+    let mut granted = [0; 2];
     for m in 2..=4 {
         for t in 2..=5 {
-            let lists = falling_lists(t, HIGHEST_COUNT);
-            for v in (2..=90).chain([242, 243, 342, 343, 3_374, 3_375]) {
-                let t = t as u64;
-                let shape = Shape { form: 0, m, t, v };
-                let meeting: Vec<&Vec<usize>> =
-                    lists.iter().filter(|list| meets(list, shape)).collect();
-                let granted = layouts.grant(shape, HIGHEST_COUNT as u64);
-                assert_eq!(granted.is_ok(), !meeting.is_empty());
-                if let Ok(layout) = granted {
-                    assert!(meeting.contains(&&layout.counts().to_vec()));
-                    let is_least = |list: &Vec<usize>| {
-                        let mut pairs = layout.counts().iter().zip(list);
-                        pairs.all(|(least, count)| least <= count)
-                    };
-                    assert!(meeting.iter().all(|list| is_least(list)));
-                    tried += 1;
+            let lists = falling_lists(t as usize, HIGHEST_COUNT);
+            for v in (2..=90).chain([211, 242, 243, 277, 342, 343, 3_374, 3_375]) {
+                for form in 0..2 {
+                    let shape = Shape { form, m, t, v };
+                    let is_granted = check_least(shape, &lists, &mut layouts);
+                    granted[form as usize] += usize::from(is_granted);
                 }
             }
         }
     }
-    assert!(tried > 900, "only {} lists were granted", tried);
+    assert!(granted.iter().all(|lists| *lists > 900), "{:?}", granted);
 }

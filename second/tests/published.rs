@@ -98,8 +98,10 @@ fn condition_d_decides_where_equation_6_comes_close_to_a_power() {
 #[test]
 fn every_shape_within_bounds_fits_in_256_groups() {
     let layouts = &mut Layouts::default();
-    for m in 2..=4 {
-        assert!(granted(m, 16, 1 << 56, layouts).groups() <= 256);
+    let (t, v) = (16, 1 << 56);
+    for (form, m) in [(0, 2), (0, 3), (0, 4), (1, 2), (1, 3), (1, 4)] {
+        let layout = layouts.grant(Shape { form, m, t, v }, 256);
+        assert!(layout.is_ok());
     }
 }
 

@@ -47,6 +47,11 @@ const SHAPES: [Shape; 6] = [
     },
 ];
 
+fn shapes_of_both_forms() -> impl Iterator<Item = Shape> {
+    let in_form = |form: u64| SHAPES.into_iter().map(move |shape| Shape { form, ..shape });
+    in_form(0).chain(in_form(1))
+}
+
 /// Counts up the digits `low` to `high`, rightmost fastest; false at the end.
 fn count_up(digits: &mut [u64], low: u64, high: u64) -> bool {
     for digit in digits.iter_mut().rev() {
@@ -140,7 +145,7 @@ fn check_generation(layout: &Layout, generation: usize, counting: &mut Counting)
 #[test]
 fn neighbouring_numbers_have_neighbouring_patterns() {
     let mut layouts = Layouts::default();
-    for shape in SHAPES {
+    for shape in shapes_of_both_forms() {
         let layout = layouts.grant(shape, 256).expect("a list that fits");
         for generation in 1..=layout.generations() {
             check_generation(&layout, generation, &mut layouts.counting);
@@ -151,13 +156,13 @@ fn neighbouring_numbers_have_neighbouring_patterns() {
 #[test]
 fn number_0_has_the_first_pattern() {
     let mut layouts = Layouts::default();
-    for shape in SHAPES {
+    for shape in shapes_of_both_forms() {
         let layout = layouts.grant(shape, 256).expect("a list that fits");
         for generation in 1..=layout.generations() {
             let zero = Whole::zero();
             let first = field::pattern_for(generation, &layout, &zero, &mut layouts.counting);
             let mut due = vec![0; layout.count(generation)];
-            if generation > 1 {
+            if generation > 1 || shape.form == 1 {
                 due[layout.count(generation) - 1] = 1;
             }
             assert_eq!(first, Some(due));
@@ -168,7 +173,7 @@ fn number_0_has_the_first_pattern() {
 #[test]
 fn a_large_field_is_written_to_the_end() {
     let mut layouts = Layouts::default();
-    for shape in SHAPES {
+    for shape in shapes_of_both_forms() {
         let layout = layouts.grant(shape, 256).expect("a list that fits");
         let mut cells = vec![0; (layout.wits() + 7) / 8];
         let mut turned = 0;
