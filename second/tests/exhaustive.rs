@@ -9,8 +9,8 @@ use std::collections::HashMap;
 
 type Pattern = Vec<u64>;
 
-/// m, t, v and the list that goes with them, 16 wits at most.
-const FIELDS: [(u64, u64, u64, &[usize]); 15] = [
+/// m, t, v and the list that goes with them in both forms, 16 wits at most.
+const FIELDS: [(u64, u64, u64, &[usize]); 14] = [
     (2, 2, 2, &[2, 1]),
     (2, 2, 20, &[5, 3]),
     (2, 2, 80, &[6, 4]),
@@ -20,13 +20,30 @@ const FIELDS: [(u64, u64, u64, &[usize]); 15] = [
     (2, 4, 9, &[7, 6, 5, 3]),
     (2, 8, 2, &[8, 7, 6, 5, 4, 3, 2, 1]),
     (3, 2, 48, &[4, 2]),
-    (3, 3, 36, &[5, 4, 2]),
     (3, 5, 6, &[5, 4, 3, 2, 1]),
     (4, 2, 14, &[2, 1]),
     (4, 2, 200, &[4, 2]),
     (4, 3, 40, &[4, 3, 2]),
     (4, 4, 14, &[4, 3, 2, 1]),
 ];
+
+/// The same behind a form, where v is a sum of condition b exactly.
+const FIELDS_OF_ONE_FORM: [(u64, u64, u64, u64, &[usize]); 7] = [
+    (0, 2, 2, 13, &[4, 3]),
+    (1, 2, 2, 13, &[5, 3]),
+    (0, 3, 2, 22, &[3, 2]),
+    (1, 3, 2, 22, &[4, 2]),
+    (0, 4, 2, 46, &[3, 2]),
+    (1, 4, 2, 46, &[4, 2]),
+    (0, 3, 3, 36, &[5, 4, 2]),
+];
+
+fn fields() -> Vec<(Shape, &'static [usize])> {
+    let in_form = |form: u64| FIELDS.map(|(m, t, v, counts)| (Shape { form, m, t, v }, counts));
+    let of_one =
+        FIELDS_OF_ONE_FORM.map(|(form, m, t, v, counts)| (Shape { form, m, t, v }, counts));
+    [&in_form(0)[..], &in_form(1), &of_one].concat()
+}
 
 /// One small field, with the patterns of each generation listed in order.
 struct Field {
@@ -42,7 +59,7 @@ impl Field {
         let counts = counts.to_vec();
         let generations = 1..=counts.len();
         let listed = generations
-            .map(|generation| patterns_in_order(shape.m, &counts, generation))
+            .map(|generation| patterns_in_order(shape, &counts, generation))
             .collect();
         let mut field = Field {
             shape,
@@ -119,10 +136,12 @@ impl Field {
         if self.groups(cells).is_none() {
             return Err(Refusal::WrongBytes);
         }
+        if is_blank(cells) && self.shape.form == 1 {
+            return Err(Refusal::Blank);
+        }
         let found = self.readable.get(cells).ok_or(Refusal::NoReading)?;
         let (generation, number) = *found;
-        let is_blank = cells.iter().all(|byte| *byte == 0);
-        let left = self.counts.len() - if is_blank { 0 } else { generation };
+        let left = self.counts.len() - if is_blank(cells) { 0 } else { generation };
         Ok(Reading {
             generation,
             number,
@@ -136,11 +155,13 @@ impl Field {
         if number >= self.shape.v {
             return Err(Refusal::NumberOutOfRange);
         }
-        let reading = self.reading_due(cells)?;
-        if reading.left == 0 {
+        let generation = match is_blank(cells) {
+            true => 1,
+            false => self.reading_due(cells)?.generation + 1,
+        };
+        if generation > self.counts.len() {
             return Err(Refusal::LastGenerationUsed);
         }
-        let generation = self.counts.len() - reading.left + 1;
         for group in groups.iter_mut().filter(|group| **group != 0) {
             *group = self.erased();
         }
@@ -158,6 +179,10 @@ impl Field {
             cells: after,
         })
     }
+}
+
+fn is_blank(cells: &[u8]) -> bool {
+    cells.iter().all(|byte| *byte == 0)
 }
 
 /// Every choice of `chosen` places, in the order of the sorted list: as a
@@ -180,16 +205,16 @@ fn value_strings(length: usize, low: u64, high: u64) -> Vec<Pattern> {
 }
 
 /// By number of written places, then by choice of places, then by values.
-fn patterns_in_order(m: u64, counts: &[usize], generation: usize) -> Vec<Pattern> {
+fn patterns_in_order(shape: Shape, counts: &[usize], generation: usize) -> Vec<Pattern> {
     let places = counts[generation - 1];
-    let nonzero = (1 << m) - 1;
+    let nonzero = (1 << shape.m) - 1;
     let next = match counts.get(generation) {
         Some(next) => *next,
         // The all-zero string is first in the list and stands for no number.
         None => return value_strings(places, 0, nonzero - 1).split_off(1),
     };
     let (fewest, highest) = match generation {
-        1 => (0, nonzero),
+        1 => (shape.form as usize, nonzero),
         _ => (1, nonzero - 1),
     };
     let mut patterns = Vec::new();
@@ -233,18 +258,17 @@ fn check_writes(field: &Field, cells: &[u8], layouts: &mut Layouts) {
 #[test]
 fn every_buffer_of_small_fields() {
     let mut layouts = Layouts::default();
-    for (m, t, v, counts) in FIELDS {
-        let shape = Shape { form: 0, m, t, v };
+    for (shape, counts) in fields() {
         let granted = layouts
             .grant(shape, 256)
             .map(|layout| layout.counts().to_vec());
         assert_eq!(granted, Ok(counts.to_vec()));
         let field = Field::new(shape, counts);
-        let bytes = (m as usize * counts[0] + 7) / 8;
+        let bytes = (shape.m as usize * counts[0] + 7) / 8;
         for cells in every_buffer(bytes) {
             let due = field.reading_due(&cells);
             assert_eq!(field::read(shape, &cells, &mut layouts), due, "{:?}", cells);
-            if due.is_ok() {
+            if due.is_ok() || is_blank(&cells) {
                 check_writes(&field, &cells, &mut layouts);
             } else {
                 let refused = field::write(shape, 0, &cells, &mut layouts);
@@ -257,9 +281,8 @@ fn every_buffer_of_small_fields() {
 #[test]
 fn buffers_of_another_byte_count_are_refused() {
     let mut layouts = Layouts::default();
-    for (m, t, v, counts) in FIELDS {
-        let shape = Shape { form: 0, m, t, v };
-        let due = (m as usize * counts[0] + 7) / 8;
+    for (shape, counts) in fields() {
+        let due = (shape.m as usize * counts[0] + 7) / 8;
         for count in (0..5).filter(|count| *count != due) {
             let cells = vec![0; count];
             let read = field::read(shape, &cells, &mut layouts);

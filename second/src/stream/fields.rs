@@ -21,7 +21,8 @@ impl Maker {
         };
         match self.chance.between(1, 100) {
             1..=8 => vec![0; cells::byte_count(&layout)],
-            9..=38 => self.written_cells(shape, &layout),
+            9..=11 => self.blank_cells_with_a_left_over_bit(&layout),
+            12..=38 => self.written_cells(shape, &layout),
             39..=56 => self.patterned_cells(&layout),
             57..=70 => self.edge_cells(&layout),
             71..=78 => self.cells_one_wit_off(shape, &layout),
@@ -49,16 +50,8 @@ impl Maker {
         self.chance.between(0, range.saturating_sub(1))
     }
 
-    /// Cells that are blank or written, and then damaged.
-    fn sound_cells(&mut self, shape: Shape, layout: &Layout) -> Vec<u8> {
-        match self.chance.one_in(4) {
-            true => vec![0; cells::byte_count(layout)],
-            false => self.written_cells(shape, layout),
-        }
-    }
-
     /// Cells after some accepted writes from blank ones.
-    fn written_cells(&mut self, shape: Shape, layout: &Layout) -> Vec<u8> {
+    pub fn written_cells(&mut self, shape: Shape, layout: &Layout) -> Vec<u8> {
         let writes = 1 + self.chance.index(layout.generations());
         let mut cells = vec![0; cells::byte_count(layout)];
         for _ in 0..writes {
@@ -145,21 +138,30 @@ impl Maker {
     }
 
     fn cells_with_wrong_bytes(&mut self, shape: Shape, layout: &Layout) -> Vec<u8> {
-        let mut cells = self.sound_cells(shape, layout);
-        let left_over = 8 * cells.len() - layout.wits();
+        let mut cells = self.written_cells(shape, layout);
         match self.chance.between(1, 10) {
             1..=2 => cells.push(0),
             3..=4 => cells.truncate(cells.len() - 1),
             5 => cells.clear(),
             6 => cells.extend(vec![0; 3]),
-            _ if left_over > 0 => {
-                let bit = self.chance.index(left_over);
-                let last = cells.len() - 1;
-                cells[last] |= 1 << bit;
-            }
-            _ => cells.push(1),
+            _ => self.set_a_left_over_bit(layout, &mut cells),
         }
         cells
+    }
+
+    fn blank_cells_with_a_left_over_bit(&mut self, layout: &Layout) -> Vec<u8> {
+        let mut cells = vec![0; cells::byte_count(layout)];
+        self.set_a_left_over_bit(layout, &mut cells);
+        cells
+    }
+
+    /// Where no bit is left over, a byte more stands for it.
+    fn set_a_left_over_bit(&mut self, layout: &Layout, cells: &mut Vec<u8>) {
+        let last = cells.len() - 1;
+        match 8 * cells.len() - layout.wits() {
+            0 => cells.push(1),
+            left_over => cells[last] |= 1 << self.chance.index(left_over),
+        }
     }
 
     fn random_cells(&mut self, layout: &Layout) -> Vec<u8> {

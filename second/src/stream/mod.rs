@@ -14,6 +14,7 @@ use crate::field;
 use crate::layout::{Layouts, Shape, GROUPS_OFFERED};
 use crate::protocol::{Call, Limits};
 use chance::Chance;
+use shapes::FORMS_BEYOND;
 use std::collections::VecDeque;
 use std::io::{self, Write};
 
@@ -84,15 +85,16 @@ impl Maker {
     }
 
     fn make_calls(&mut self) {
-        let call = match self.chance.between(1, 130) {
+        let call = match self.chance.between(1, 134) {
             1..=16 => self.layout_call(),
             17..=42 => self.read_call(),
             43..=64 => self.write_call(),
             65..=70 => return self.make_chain(),
-            71..=74 => return self.make_layouts_around_a_sum(),
-            75..=90 => self.export_call(),
-            91..=116 => Call::Walk { dump: self.dump() },
-            117..=120 => self.hex_export_call(),
+            71..=76 => return self.make_layouts_around_a_sum(),
+            77..=78 => return self.make_calls_with_a_form_beyond(),
+            79..=94 => self.export_call(),
+            95..=120 => Call::Walk { dump: self.dump() },
+            121..=124 => self.hex_export_call(),
             _ => self.hex_import_call(),
         };
         self.waiting.push_back(call);
@@ -144,7 +146,8 @@ impl Maker {
 
     /// Writes from blank cells to the last generation and past it, each to the
     /// cells that the one before left. In form 0 opening zeros use no generation;
-    /// a number out of range or a read in between changes nothing.
+    /// a number out of range, also before them all, or a read in between changes
+    /// nothing.
     fn make_chain(&mut self) {
         let shape = self.shape();
         let layout = match self.layouts.grant(shape, GROUPS_OFFERED) {
@@ -152,6 +155,10 @@ impl Maker {
             Err(_) => return,
         };
         let mut cells = vec![0; cells::byte_count(&layout)];
+        if self.chance.one_in(3) {
+            let number = self.chance.pick(&[shape.v, shape.v + 1, u64::MAX]);
+            self.push_write(shape, number, &cells);
+        }
         let opening_zeros = self.chance.index(3);
         for turn in 0..opening_zeros + layout.generations() + 2 {
             let number = match self.chance.between(1, 8) {
@@ -163,15 +170,40 @@ impl Maker {
                 let cells = cells.clone();
                 self.waiting.push_back(Call::Read { shape, cells });
             }
-            self.waiting.push_back(Call::Write {
-                shape,
-                number,
-                cells: cells.clone(),
-            });
+            self.push_write(shape, number, &cells);
             if let Ok(written) = field::write(shape, number, &cells, &mut self.layouts) {
                 cells = written.cells;
             }
         }
+    }
+
+    /// A layout, a read and a write that would be accepted in form 1.
+    fn make_calls_with_a_form_beyond(&mut self) {
+        let form_1 = Shape {
+            form: 1,
+            ..self.small_shape()
+        };
+        let form = self.chance.pick(&FORMS_BEYOND);
+        let shape = Shape { form, ..form_1 };
+        let layout = match self.layouts.grant(form_1, GROUPS_OFFERED) {
+            Ok(layout) => layout,
+            Err(_) => return,
+        };
+        let cells = self.written_cells(form_1, &layout);
+        let blank = vec![0; cells.len()];
+        let number = self.number_in_range(shape.v);
+        let offered = GROUPS_OFFERED;
+        self.waiting.push_back(Call::Layout { shape, offered });
+        self.waiting.push_back(Call::Read { shape, cells });
+        self.push_write(shape, number, &blank);
+    }
+
+    fn push_write(&mut self, shape: Shape, number: u64, cells: &[u8]) {
+        self.waiting.push_back(Call::Write {
+            shape,
+            number,
+            cells: cells.to_vec(),
+        });
     }
 
     fn export_call(&mut self) -> Call {

@@ -85,7 +85,7 @@ impl Maker {
         }
     }
 
-    fn small_shape(&mut self) -> Shape {
+    pub fn small_shape(&mut self) -> Shape {
         Shape {
             form: 0,
             m: self.chance.between(2, 4),

@@ -1,0 +1,209 @@
+//! What the made streams are sure to hold of form 1 and of forms that are none.
+
+use second::answers;
+use second::cells;
+use second::field;
+use second::layout::{Layouts, Shape};
+use second::protocol::{Call, Limits};
+use second::stream::Maker;
+use std::collections::{HashMap, HashSet};
+use std::mem;
+
+const CALLS: usize = 20_000;
+
+fn calls(seed: u64) -> Vec<Call> {
+    let mut maker = Maker::new(seed, Limits::USUAL);
+    (0..CALLS).map(|_| maker.call()).collect()
+}
+
+/// Shapes of form 0 that are laid out with all groups offered, and in which forms.
+fn forms_laid_out(calls: &[Call]) -> HashMap<Shape, HashSet<u64>> {
+    let mut forms: HashMap<Shape, HashSet<u64>> = HashMap::new();
+    for call in calls {
+        if let Call::Layout {
+            shape,
+            offered: 256,
+        } = call
+        {
+            let of_form_0 = Shape { form: 0, ..*shape };
+            forms.entry(of_form_0).or_default().insert(shape.form);
+        }
+    }
+    forms
+}
+
+fn forms_differ(shape: &Shape, layouts: &mut Layouts) -> bool {
+    let mut counts = |form: u64| {
+        let layout = layouts.grant(Shape { form, ..*shape }, 256);
+        layout.map(|layout| layout.counts().to_vec())
+    };
+    counts(0) != counts(1)
+}
+
+#[test]
+fn every_range_where_the_lists_differ_is_laid_out_with_its_neighbours() {
+    for seed in 0..2 {
+        let forms = forms_laid_out(&calls(seed));
+        let mut layouts = Layouts::default();
+        let shapes = forms.keys();
+        let differing: HashSet<&Shape> = shapes
+            .filter(|shape| forms_differ(shape, &mut layouts))
+            .collect();
+        for shape in &differing {
+            for v in [shape.v - 1, shape.v, shape.v + 1] {
+                let in_forms = &forms[&Shape { v, ..**shape }];
+                assert!(in_forms.contains(&0) && in_forms.contains(&1));
+            }
+        }
+        let with_m_2 = differing.iter().filter(|shape| shape.m == 2);
+        assert_eq!(with_m_2.count(), 153);
+        let pairs = differing.iter().map(|shape| (shape.m, shape.t));
+        assert_eq!(pairs.collect::<HashSet<(u64, u64)>>().len(), 3 * 15);
+    }
+}
+
+/// Chains of form 1 from blank cells whose write behind t accepted ones is refused.
+fn whole_chains(calls: &[Call]) -> usize {
+    let mut layouts = Layouts::default();
+    let (mut chains, mut accepted) = (0, 0);
+    let mut left_by_the_last = Vec::new();
+    for call in calls {
+        let (shape, number, cells) = match call {
+            Call::Write {
+                shape,
+                number,
+                cells,
+            } if shape.form == 1 => (*shape, *number, cells),
+            _ => continue,
+        };
+        let is_blank = cells.iter().all(|byte| *byte == 0);
+        if is_blank || *cells != left_by_the_last {
+            accepted = 0;
+        }
+        let answer = field::write(shape, number, cells, &mut layouts);
+        let refusal = answer.as_ref().err().map(|refusal| refusal.number());
+        chains += usize::from(refusal == Some(5) && accepted == shape.t);
+        accepted += u64::from(answer.is_ok());
+        left_by_the_last = answer.map_or_else(|_| cells.clone(), |written| written.cells);
+    }
+    chains
+}
+
+#[test]
+fn chains_of_form_1_go_to_the_end_and_past_it() {
+    for seed in 0..2 {
+        let chains = whole_chains(&calls(seed));
+        assert!(chains > 100, "only {}", chains);
+    }
+}
+
+/// Whether all bits are 0 but for some behind the last wit.
+fn is_blank_but_for_left_over_bits(shape: Shape, bytes: &[u8], layouts: &mut Layouts) -> bool {
+    let layout = layouts.grant(shape, 256).expect("the shape is in bounds");
+    let left_over = 8 * cells::byte_count(&layout) - layout.wits();
+    match bytes.split_last() {
+        Some((last, others)) if bytes.len() == cells::byte_count(&layout) => {
+            *last != 0 && last >> left_over == 0 && others.iter().all(|byte| *byte == 0)
+        }
+        _ => false,
+    }
+}
+
+/// What a read or write of form 1 is about, and its refusal.
+fn kind_in_form_1(call: &Call, layouts: &mut Layouts) -> Option<String> {
+    let answer = answers::answer(call, layouts);
+    let refusal = answer.split_whitespace().nth(1)?.to_string();
+    let (operation, shape, cells, above) = match call {
+        Call::Read { shape, cells } => ("read", shape, cells, ""),
+        Call::Write {
+            shape,
+            number,
+            cells,
+        } => {
+            let above = match number.checked_sub(shape.v) {
+                None => " in range",
+                Some(0) => " v",
+                Some(_) => " above v",
+            };
+            ("write", shape, cells, above)
+        }
+        _ => return None,
+    };
+    if shape.form != 1 || refusal == "1" {
+        return None;
+    }
+    let state = match cells.iter().all(|byte| *byte == 0) {
+        true if refusal != "3" => " blank",
+        false if is_blank_but_for_left_over_bits(*shape, cells, layouts) => " left over",
+        _ => "",
+    };
+    Some(format!("{}{}{}: {}", operation, state, above, refusal))
+}
+
+const KINDS_IN_FORM_1: [&str; 12] = [
+    "read blank: 11",
+    "read left over: 3",
+    "read: 0",
+    "read: 3",
+    "read: 4",
+    "write blank in range: 0",
+    "write blank v: 6",
+    "write blank above v: 6",
+    "write left over in range: 3",
+    "write in range: 4",
+    "write in range: 5",
+    "write v: 6",
+];
+
+#[test]
+fn blank_and_damaged_cells_of_form_1_are_read_and_written() {
+    for seed in 0..2 {
+        let mut layouts = Layouts::default();
+        let calls = calls(seed);
+        let kinds = calls
+            .iter()
+            .filter_map(|call| kind_in_form_1(call, &mut layouts));
+        let met: HashSet<String> = kinds.collect();
+        let missing: Vec<&&str> = KINDS_IN_FORM_1
+            .iter()
+            .filter(|kind| !met.contains(**kind))
+            .collect();
+        assert!(missing.is_empty(), "not met: {:?}", missing);
+        assert!(!met
+            .iter()
+            .any(|kind| kind.starts_with("write") && kind.ends_with(": 11")));
+    }
+}
+
+/// The operation and the form of a call that would be accepted in form 1.
+fn form_that_decides(call: &Call, layouts: &mut Layouts) -> Option<(u8, u64)> {
+    let mut call = call.clone();
+    let form = match &mut call {
+        Call::Layout { shape, .. } | Call::Read { shape, .. } | Call::Write { shape, .. } => {
+            mem::replace(&mut shape.form, 1)
+        }
+        _ => return None,
+    };
+    let answer = answers::answer(&call, layouts);
+    match answer.split_whitespace().nth(1) {
+        Some("0") => Some((call.to_bytes()[0], form)),
+        _ => None,
+    }
+}
+
+#[test]
+fn forms_above_1_alone_decide() {
+    for seed in 0..2 {
+        let mut layouts = Layouts::default();
+        let calls = calls(seed);
+        let deciding = calls
+            .iter()
+            .filter_map(|call| form_that_decides(call, &mut layouts));
+        let met: HashSet<(u8, u64)> = deciding.collect();
+        for form in [2, 3, 255, 1 << 32, u64::MAX] {
+            for operation in 1..=3 {
+                assert!(met.contains(&(operation, form)), "{} {}", operation, form);
+            }
+        }
+    }
+}
