@@ -85,16 +85,16 @@ impl Maker {
     }
 
     fn make_calls(&mut self) {
-        let call = match self.chance.between(1, 134) {
+        let call = match self.chance.between(1, 146) {
             1..=16 => self.layout_call(),
             17..=42 => self.read_call(),
             43..=64 => self.write_call(),
-            65..=70 => return self.make_chain(),
-            71..=76 => return self.make_layouts_around_a_sum(),
-            77..=78 => return self.make_calls_with_a_form_beyond(),
-            79..=94 => self.export_call(),
-            95..=120 => Call::Walk { dump: self.dump() },
-            121..=124 => self.hex_export_call(),
+            65..=69 => return self.make_chain(),
+            70..=75 => return self.make_layouts_around_a_sum(),
+            76..=77 => return self.make_calls_with_a_form_beyond(),
+            78..=95 => self.export_call(),
+            96..=125 => Call::Walk { dump: self.dump() },
+            126..=130 => self.hex_export_call(),
             _ => self.hex_import_call(),
         };
         self.waiting.push_back(call);
