@@ -2,8 +2,10 @@
  * Gorvlime: numbers kept in write-once cells by the position modulation code of Wu and Jiang.
  *
  * A wit is one write-once cell: it leaves the factory as 0, can be turned to 1, and never goes back. A field is a run of
- * wits that holds one number and can still be given a new one t times. Three numbers say what a field is like, its shape:
+ * wits that holds one number and can still be given a new one t times. Four numbers say what a field is like, its shape:
  *
+ *     form                      0 or 1        what blank cells mean: 0, for drives in service, the number 0;
+ *                                             1, for new drives, no number yet
  *     m   wits in a group       2 to 4
  *     t   generations           2 to 16       how often the field can be written
  *     v   range                 2 to 2^56     the numbers are 0 to v - 1
@@ -42,9 +44,10 @@ extern "C" {
 enum gorvlime_refusal {
     GORVLIME_ACCEPTED = 0,      /* from                  when                                               */
     GORVLIME_SERIAL = 10,       /* export                the serial is above 2^63 - 1                       */
-    GORVLIME_BOUNDS = 1,        /* all with m, t, v      m, t, v or g is outside its bounds                 */
+    GORVLIME_BOUNDS = 1,        /* all with m, t, v      the form, m, t, v or g is outside its bounds       */
     GORVLIME_NO_ROOM = 2,       /* all with m, t, v      the field needs more than g groups                 */
     GORVLIME_CELLS = 3,         /* read, write, export   another count of bytes, or a 1 behind the last wit */
+    GORVLIME_BLANK = 11,        /* read                  the field is of form 1 and nothing is written yet  */
     GORVLIME_NUMBER = 6,        /* write                 the number is v or more                            */
     GORVLIME_NO_READING = 4,    /* read, write           the cells have no reading: no writes leave them so */
     GORVLIME_SPENT = 5,         /* write                 all t generations are written                      */
@@ -61,13 +64,15 @@ enum gorvlime_refusal {
 };
 
 /*
- * What a field is like. It never changes for a field: reading by another shape gives other numbers. Name the fields,
+ * What a field is like. It never changes for a field: reading by another shape, or by another form alone, gives other
+ * numbers. Name the fields,
  *
- *     (struct gorvlime_shape){ .m = 2, .t = 10, .v = 1ull << 56 }
+ *     (struct gorvlime_shape){ .m = 2, .t = 10, .v = 1ull << 56 }               a drive in service
+ *     (struct gorvlime_shape){ .form = 1, .m = 2, .t = 10, .v = 1ull << 56 }    a new drive
  *
  * since later versions of the library add some. A field that is left out is 0.
  */
-struct gorvlime_shape { uint64_t m, t, v; };
+struct gorvlime_shape { uint64_t form, m, t, v; };
 
 /*
  * How large a field is.
@@ -75,7 +80,7 @@ struct gorvlime_shape { uint64_t m, t, v; };
  * Takes the shape and g, the groups that there is room for, 0 to 256. Answers the counts h_1 > h_2 > .. > h_t in h[0] to
  * h[t - 1], zeros behind: generation i uses h_i groups, and no smaller counts would do. The field takes m * h[0] wits, which
  * is (m * h[0] + 7) / 8 bytes of cells, never more than 64. Only the layout asks about g: the other calls work with g = 256,
- * where every field has room.
+ * where every field has room. The form changes h[0] alone, and only where v is just what form 0 has patterns for.
  * Refusals: 1, 2.
  */
 struct gorvlime_counts { uint64_t refusal; uint64_t h[16]; };
@@ -87,9 +92,9 @@ struct gorvlime_counts gorvlime_layout(struct gorvlime_shape shape, uint64_t g);
  *
  * Takes the field's shape and its cells, exactly as many bytes as the layout says. Wit w of the field is bit
  * 7 - (w mod 8) of byte w / 8, bit 7 being the high one; bits behind the last wit are 0. Answers the generation of the last
- * write (1 to t), the number (0 to v - 1), and how many writes are left. Blank cells read as generation 1, number 0, with t
- * writes left.
- * Refusals: 1, 2, 3, 4.
+ * write (1 to t), the number (0 to v - 1), and how many writes are left. Blank cells of form 0 read as generation 1,
+ * number 0, with t writes left; those of form 1 are refused with 11, since no number was written.
+ * Refusals: 1, 2, 3, 11, 4.
  */
 struct gorvlime_reading { uint64_t refusal, generation, number, left; };
 
@@ -99,9 +104,9 @@ struct gorvlime_reading gorvlime_read(struct gorvlime_shape shape, const uint8_t
  * A new number in a field.
  *
  * Takes the field's shape, its cells and the number, 0 to v - 1, and turns wits in the cells from 0 to 1, never back.
- * Answers the generation just written and how many wits were turned. Writing 0 on blank cells turns none and leaves them
- * blank; every other write uses one of the t up.
- * Refusals: 1, 2, 3, 6, 4, 5.
+ * Answers the generation just written and how many wits were turned. In form 0, writing 0 on blank cells turns none and
+ * leaves them blank. Every other write, in form 1 every write, turns some wits and uses one of the t up.
+ * Refusals: 1, 2, 3, 6, 4, 5. Blank cells of form 1 are written as any others and never refused with 11.
  */
 struct gorvlime_writing { uint64_t refusal, generation, turned; };
 
@@ -112,7 +117,7 @@ struct gorvlime_writing gorvlime_write(struct gorvlime_shape shape, uint8_t *cel
  *
  * Takes a serial of your choice (0 to 2^63 - 1), the field's m, t, v and cells, and an output. Stores the record at the front
  * of the output, leaves the bytes behind it as they are, and answers the record's length, at most 85 bytes. Cells that have
- * no reading are exported too.
+ * no reading are exported too. A record has no place for the form and is read as form 0: export no field of form 1.
  * A record is serial, m, t, v, the count of cell bytes, then these bytes. Each number is groups of seven bits, lowest first,
  * the top bit set on all but the last.
  * Refusals: 10, 1, 2, 3, 9.
@@ -129,8 +134,8 @@ struct gorvlime_stored gorvlime_export(uint64_t serial, uint64_t m, uint64_t t, 
  * or past the dump's end is the end.
  *
  *     a record    refusal 0, records 1; its serial, m, t, v; its cells are the dump's bytes start to start + length - 1;
- *                 next, where the next step starts; then what gorvlime_read says of the cells: `refused` is 0 and
- *                 generation, number, left follow, or it is the record's own refusal 1 to 4 and they are 0
+ *                 next, where the next step starts; then what gorvlime_read says of the cells in form 0: `refused` is 0
+ *                 and generation, number, left follow, or it is the record's own refusal 1 to 4 and they are 0
  *     the end     refusal 0, records 0
  *     refused     refusal 8, or 7 with the offset of the record's first byte; records 0
  *
