@@ -70,8 +70,8 @@ static void put_hex(const uint8_t *bytes, size_t count)
 
 static struct gorvlime_shape get_shape(void)
 {
-    uint64_t m = get_number(), t = get_number(), v = get_number();
-    return (struct gorvlime_shape){.m = m, .t = t, .v = v};
+    uint64_t form = get_number(), m = get_number(), t = get_number(), v = get_number();
+    return (struct gorvlime_shape){.form = form, .m = m, .t = t, .v = v};
 }
 
 static void answer_layout(void)
@@ -123,10 +123,10 @@ static void put_stored(const char *word, struct gorvlime_stored e, size_t output
 static void answer_export(struct lent *lent)
 {
     uint64_t serial = get_number();
-    struct gorvlime_shape f = get_shape();
+    uint64_t m = get_number(), t = get_number(), v = get_number();
     size_t output_count = get_output();
     get_bytes(lent);
-    struct gorvlime_stored e = CALL(export)(serial, f.m, f.t, f.v, lent->bytes, lent->count, output, output_count);
+    struct gorvlime_stored e = CALL(export)(serial, m, t, v, lent->bytes, lent->count, output, output_count);
     put_stored("export", e, output_count);
 }
 

@@ -1,6 +1,6 @@
 /*
- * What the archive costs beside plain C: all calls on the drives' field, m 2, t 10, v 2^56, reads and writes on the
- * largest fields and on a small one, and a dump of full size to HEX and back.
+ * What the archive costs beside plain C: all calls on the drives' field, m 2, t 10, v 2^56, reads of it in form 1, reads
+ * and writes on the largest fields and on a small one, and a dump of full size to HEX and back.
  *
  *     bench list               the cases, a line for each: calls in one run of it, and its name
  *     bench same               compares the answers of both in every case
@@ -56,6 +56,7 @@ static struct sample drives = {.shape = {.m = 2, .t = 10, .v = RANGE}, .cells = 
 static struct sample widest_2 = {.shape = {.m = 2, .t = 16, .v = RANGE}, .cells = 49};
 static struct sample widest_3 = {.shape = {.m = 3, .t = 16, .v = RANGE}, .cells = 57};
 static struct sample widest_4 = {.shape = {.m = 4, .t = 16, .v = RANGE}, .cells = 64};
+static struct sample new_drives = {.shape = {.form = 1, .m = 2, .t = 10, .v = RANGE}, .cells = 35};
 static struct sample small = {.shape = {.m = 2, .t = 3, .v = 4}, .cells = 1};
 
 static uint8_t dump[DUMP];   /* of the drives' fields */
@@ -146,6 +147,7 @@ static const struct {
     {CHAINS, 1, run_writes, &widest_3, 16, "m 3, t 16, v 2^56: 16 writes"},
     {CHAINS, 10, run_reads, &widest_4, 8, "m 4, t 16, v 2^56: read at generation 8"},
     {CHAINS, 1, run_writes, &widest_4, 16, "m 4, t 16, v 2^56: 16 writes"},
+    {CHAINS, 10, run_reads, &new_drives, 5, "form 1: read at generation 5"},
     {CHAINS, 100, run_reads, &small, 2, "m 2, t 3, v 4: read at generation 2"},
     {CHAINS, 100, run_writes, &small, 3, "m 2, t 3, v 4: 3 writes"},
 };

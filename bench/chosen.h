@@ -1,4 +1,7 @@
-/* CALL(read) is gorvlime_read of the archive where GORVLIME is defined, and else plain_read. SHAPE(m, t, v) is a shape. */
+/*
+ * CALL(read) is gorvlime_read of the archive where GORVLIME is defined, and else plain_read. SHAPE(m, t, v) is a shape of
+ * form 0.
+ */
 #ifndef CHOSEN_H
 #define CHOSEN_H
 

@@ -52,13 +52,14 @@ void plain_lay_out(struct field *f, struct gorvlime_shape shape)
     f->t = t;
     f->v = v;
     f->refusal = GORVLIME_BOUNDS;
-    if (m < 2 || m > 4 || t < 2 || t > MOST_GENERATIONS || v < 2 || v > MOST_RANGE)
+    if (shape.form > 1 || m < 2 || m > 4 || t < 2 || t > MOST_GENERATIONS || v < 2 || v > MOST_RANGE)
         return;
     unsigned ones = (1u << m) - 1;
+    f->first = shape.form;
     f->h[t - 1] = last_count(ones, v);
     for (unsigned i = t - 2; i > 0; i--)
         f->h[i] = least_count(f->h[i + 1], ones - 1, 1, v);
-    f->h[0] = least_count(f->h[1], ones, 0, v);
+    f->h[0] = least_count(f->h[1], ones, f->first, v);
     f->refusal = GORVLIME_ACCEPTED;
 }
 
@@ -140,7 +141,9 @@ static uint64_t binomial(uint64_t n, unsigned k)
 static struct deal deal_of(const struct field *f, unsigned i)
 {
     unsigned ones = (1u << f->m) - 1;
-    return (struct deal){.places = f->h[i - 1], .b = i == 1 ? ones : ones - 1, .first = i != 1};
+    if (i == 1)
+        return (struct deal){.places = f->h[0], .b = ones, .first = f->first};
+    return (struct deal){.places = f->h[i - 1], .b = ones - 1, .first = 1};
 }
 
 /* In generation 1 all ones are data, so that every group of the field is a place. */
@@ -255,6 +258,12 @@ static unsigned generation_of(const struct field *f, unsigned zeros)
     return i;
 }
 
+static int is_blank(const struct field *f, const struct words *w)
+{
+    return w->zeros == f->h[0];
+}
+
+/* Of cells that are not blank, or of form 0. */
 static struct gorvlime_reading read_words(const struct field *f, struct words *w)
 {
     struct gorvlime_reading refused = {.refusal = GORVLIME_NO_READING};
@@ -267,7 +276,7 @@ static struct gorvlime_reading read_words(const struct field *f, struct words *w
     uint64_t number = i == f->t ? digits_number(w) : pattern_number(w, d);
     if (number >= f->v)
         return refused;
-    return (struct gorvlime_reading){.generation = i, .number = number, .left = w->zeros == f->h[0] ? f->t : f->t - i};
+    return (struct gorvlime_reading){.generation = i, .number = number, .left = is_blank(f, w) ? f->t : f->t - i};
 }
 
 struct gorvlime_reading plain_read_cells(const struct field *f, const uint8_t *cells, size_t count)
@@ -277,6 +286,8 @@ struct gorvlime_reading plain_read_cells(const struct field *f, const uint8_t *c
     if (refused.refusal != GORVLIME_ACCEPTED)
         return refused;
     open_cells(f, cells, count, &w);
+    if (f->first > 0 && is_blank(f, &w))
+        return (struct gorvlime_reading){.refusal = GORVLIME_BLANK};
     return read_words(f, &w);
 }
 
@@ -308,6 +319,19 @@ static void write_words(const struct field *f, struct words *w, unsigned i, uint
         set_pattern(w, deal_of(f, i), number);
 }
 
+/* The generation that a write takes, or why there is none. Blank cells need no reading: form 1 has none for them. */
+static struct gorvlime_writing next_generation(const struct field *f, struct words *w)
+{
+    if (is_blank(f, w))
+        return (struct gorvlime_writing){.generation = 1};
+    struct gorvlime_reading r = read_words(f, w);
+    if (r.refusal != GORVLIME_ACCEPTED)
+        return (struct gorvlime_writing){.refusal = r.refusal};
+    if (r.generation == f->t)
+        return (struct gorvlime_writing){.refusal = GORVLIME_SPENT};
+    return (struct gorvlime_writing){.generation = r.generation + 1};
+}
+
 struct gorvlime_writing plain_write(struct gorvlime_shape shape, uint8_t *cells, size_t cells_count, uint64_t number)
 {
     struct gorvlime_writing answer = {0};
@@ -320,13 +344,9 @@ struct gorvlime_writing plain_write(struct gorvlime_shape shape, uint8_t *cells,
     if (answer.refusal != GORVLIME_ACCEPTED)
         return answer;
     open_cells(&f, cells, cells_count, &w);
-    struct gorvlime_reading r = read_words(&f, &w);
-    answer.refusal = r.refusal;
-    if (answer.refusal == GORVLIME_ACCEPTED && r.generation == f.t)
-        answer.refusal = GORVLIME_SPENT;
+    answer = next_generation(&f, &w);
     if (answer.refusal != GORVLIME_ACCEPTED)
         return answer;
-    answer.generation = f.t - r.left + 1;
     write_words(&f, &w, answer.generation, number);
     answer.turned = store_cells(&w, cells, cells_count);
     return answer;

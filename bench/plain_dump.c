@@ -62,13 +62,14 @@ static int get_number(const uint8_t *dump, size_t count, size_t *at, uint64_t *n
     return 0;
 }
 
-/* The record at an offset below the dump's end. False: malformed. */
+/* The record at an offset below the dump's end, which is of form 0. False: malformed. */
 static int get_record(const uint8_t *dump, size_t count, size_t at, struct record *r)
 {
     if (!get_number(dump, count, &at, &r->serial) || !get_number(dump, count, &at, &r->shape.m)
         || !get_number(dump, count, &at, &r->shape.t) || !get_number(dump, count, &at, &r->shape.v)
         || !get_number(dump, count, &at, &r->length))
         return 0;
+    r->shape.form = 0;
     r->start = at;
     return r->length <= count - at;
 }

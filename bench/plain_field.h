@@ -7,11 +7,12 @@
 enum { MOST_GENERATIONS = 16, MOST_GROUPS = 256 };
 
 /*
- * What a shape comes to. Out of bounds, refusal is 1 and the counts mean nothing. In bounds there is always room in 256
- * groups: the first count is at most 194.
+ * What a shape comes to. Out of bounds, refusal is 1, and `first` and the counts mean nothing. In bounds there is always
+ * room in 256 groups: the first count is at most 194.
  */
 struct field {
     uint64_t refusal, m, t, v;
+    unsigned first;   /* how many places generation 1 writes at least: 0 in form 0, 1 in form 1 */
     unsigned h[MOST_GENERATIONS];
 };
 
