@@ -3,13 +3,12 @@
  * every number of each answer and every lent byte. With GORVLIME defined it calls the archive, and else plain C.
  */
 #include "chosen.h"
+#include "chain.h"
 #include "check.h"
 
 #include <inttypes.h>
 #include <stdio.h>
 #include <stdlib.h>
-
-#define RANGE ((uint64_t)1 << 56)
 
 /* Refusal 0 stands for the counts behind it; a refused layout has only zeros. */
 static const struct {
@@ -209,46 +208,15 @@ static void check_writes(void)
     }
 }
 
-static unsigned ones_in(const struct lent *cells)
-{
-    unsigned ones = 0;
-    for (size_t bit = 0; bit < 8 * cells->count; bit++)
-        ones += cells->all[MARGIN + bit / 8] >> bit % 8 & 1;
-    return ones;
-}
-
-/* From blank cells to the last generation, the same number each time. */
-static void check_chain(uint64_t m, uint64_t t, uint64_t v, uint64_t number)
-{
-    struct lent cells = lend_room((m * CALL(layout)(SHAPE(m, t, v), 256).h[0] + 7) / 8);
-    uint64_t turned = 0;
-    for (size_t i = 0; i < cells.count; i++)
-        cells.all[MARGIN + i] = 0;
-    for (uint64_t i = 1; i <= t; i++) {
-        calling("write %" PRIu64 " of m %" PRIu64 " t %" PRIu64 " v %" PRIu64 " number %" PRIu64, i, m, t, v, number);
-        struct gorvlime_writing w = CALL(write)(SHAPE(m, t, v), LENT(cells), number);
-        struct gorvlime_reading r = CALL(read)(SHAPE(m, t, v), LENT(cells));
-        turned += w.turned;
-        same("refusal", w.refusal, 0);
-        same("generation", w.generation, i);
-        same("wits turned so far", turned, ones_in(&cells));
-        same("refusal of the reading", r.refusal, 0);
-        same("generation read", r.generation, i);
-        same("number read", r.number, number);
-        same("left", r.left, t - i);
-    }
-    same("refusal of one more", CALL(write)(SHAPE(m, t, v), LENT(cells), number).refusal, 5);
-}
-
 /* Small and large ranges at every m and t; no field is larger than the header says. */
 static void check_chains(void)
 {
     for (uint64_t m = 2; m <= 4; m++) {
         for (uint64_t t = 2; t <= 16; t++) {
-            check_chain(m, t, 2, 1);
-            check_chain(m, t, 1000, 517);
-            check_chain(m, t, RANGE, 1);
-            check_chain(m, t, RANGE, RANGE - 1);
+            check_chain(SHAPE(m, t, 2), 1);
+            check_chain(SHAPE(m, t, 1000), 517);
+            check_chain(SHAPE(m, t, RANGE), 1);
+            check_chain(SHAPE(m, t, RANGE), RANGE - 1);
         }
         calling("layout m %" PRIu64 " t 16 v 2^56", m);
         same("64 bytes hold it", m * CALL(layout)(SHAPE(m, 16, RANGE), 256).h[0] <= 8 * 64, 1);
@@ -279,6 +247,7 @@ int main(int count, char **words)
     check_writes();
     check_chains();
     check_published_field();
+    check_forms();
     check_dump_calls();
     check_hex_calls();
     return done(atoi(words[1]));

@@ -32,6 +32,8 @@ void holds(const struct lent *lent, const char *hex);
 /* Prints how many checks were made; the program's exit status, which is 0 where none failed and as many were due. */
 int done(unsigned due);
 
+void check_forms(void);
+
 void check_dump_calls(void);
 
 void check_hex_calls(void);
