@@ -1,5 +1,5 @@
 /*
- * A counter in write-once cells, as board firmware keeps it: size the cells, write, read back, export.
+ * Counters in write-once cells, as board firmware keeps them: size the cells, write, read back, export.
  *
  *     rt staticlib gorvlime
  *     tools/cc examples/board.c target/staticlib/libgorvlime.a -o target/board
@@ -10,56 +10,68 @@
 #include <inttypes.h>
 #include <stdio.h>
 
-/* What the field is like. A shape never changes for a field: reading by another gives other numbers. */
-static const struct gorvlime_shape shape = {
-    .m = 2,             /* wits in a group */
-    .t = 10,            /* the field can be written ten times */
-    .v = 1ull << 56,    /* the counter is below this */
+struct drive {
+    const char *name;
+    struct gorvlime_shape shape;   /* what the field is like. It never changes: another shape reads other numbers */
+    uint8_t cells[35];             /* write-once cells on a board, blank at first. The layout says how many bytes */
 };
 
-/* On a board these are write-once cells, blank at first. 35 bytes is what the layout below says for this shape. */
-static uint8_t cells[35];
+/* A new drive takes form 1, in which a blank field is not taken for a written 0. */
+static struct drive new_drive = {
+    .name = "new drive",
+    .shape = {
+        .form = 1,
+        .m = 2,             /* wits in a group */
+        .t = 10,            /* the field can be written ten times */
+        .v = 1ull << 56,    /* the counter is below this */
+    },
+};
+
+/* Drives in service stay with form 0, which is what a form left out means. */
+static struct drive old_drive = {.name = "old drive", .shape = {.m = 2, .t = 10, .v = 1ull << 56}};
 
 /* Is the block of cells as large as the field? Ask once, when the board is designed or starts. */
-static int is_right_size(void)
+static int is_right_size(const struct drive *d)
 {
-    struct gorvlime_counts counts = gorvlime_layout(shape, 256);
+    struct gorvlime_counts counts = gorvlime_layout(d->shape, 256);
     if (counts.refusal != GORVLIME_ACCEPTED)
         return 0;
-    uint64_t wits = shape.m * counts.h[0];
-    printf("the field takes %" PRIu64 " wits\n", wits);
-    return sizeof cells == (wits + 7) / 8;
+    uint64_t wits = d->shape.m * counts.h[0];
+    printf("%s: the field takes %" PRIu64 " wits\n", d->name, wits);
+    return sizeof d->cells == (wits + 7) / 8;
 }
 
 /* A refused write has stored nothing, so the last number is still there. */
-static void write_counter(uint64_t number)
+static void write_counter(struct drive *d, uint64_t number)
 {
-    struct gorvlime_writing written = gorvlime_write(shape, cells, sizeof cells, number);
+    struct gorvlime_writing written = gorvlime_write(d->shape, d->cells, sizeof d->cells, number);
     if (written.refusal != GORVLIME_ACCEPTED) {
-        printf("%" PRIu64 " is refused with %" PRIu64 "\n", number, written.refusal);
+        printf("%s: %" PRIu64 " is refused with %" PRIu64 "\n", d->name, number, written.refusal);
         return;
     }
-    printf("write %" PRIu64 ": %" PRIu64 ", %" PRIu64 " wits turned\n", written.generation, number, written.turned);
+    printf("%s: write %" PRIu64 " is %" PRIu64 ", %" PRIu64 " wits turned\n", d->name, written.generation, number,
+           written.turned);
 }
 
-static void read_counter(void)
+static void read_counter(const struct drive *d)
 {
-    struct gorvlime_reading reading = gorvlime_read(shape, cells, sizeof cells);
-    if (reading.refusal != GORVLIME_ACCEPTED) {
-        printf("no reading, refusal %" PRIu64 "\n", reading.refusal);
-        return;
-    }
-    printf("the counter is %" PRIu64 ", %" PRIu64 " writes left\n", reading.number, reading.left);
+    struct gorvlime_reading reading = gorvlime_read(d->shape, d->cells, sizeof d->cells);
+    if (reading.refusal == GORVLIME_BLANK)
+        printf("%s: no number yet\n", d->name);
+    else if (reading.refusal != GORVLIME_ACCEPTED)
+        printf("%s: no reading, refusal %" PRIu64 "\n", d->name, reading.refusal);
+    else
+        printf("%s: the counter is %" PRIu64 ", %" PRIu64 " writes left\n", d->name, reading.number, reading.left);
 }
 
-/* A record says all that a collector needs: whose field it is, m, t, v and the cells. */
-static void export_counter(uint64_t serial)
+/* A record says whose field it is, m, t, v and the cells. It has no place for the form, and is read as form 0. */
+static void export_counter(const struct drive *d, uint64_t serial)
 {
     uint8_t record[85];   /* no record is longer */
-    struct gorvlime_stored exported = gorvlime_export(serial, shape.m, shape.t, shape.v, cells, sizeof cells,
-                                                        record, sizeof record);
+    struct gorvlime_stored exported = gorvlime_export(serial, d->shape.m, d->shape.t, d->shape.v, d->cells,
+                                                        sizeof d->cells, record, sizeof record);
     if (exported.refusal != GORVLIME_ACCEPTED) {
-        printf("no record, refusal %" PRIu64 "\n", exported.refusal);
+        printf("%s: no record, refusal %" PRIu64 "\n", d->name, exported.refusal);
         return;
     }
     for (uint64_t i = 0; i < exported.length; i++)
@@ -68,13 +80,17 @@ static void export_counter(uint64_t serial)
 
 int main(void)
 {
-    if (!is_right_size())
+    if (!is_right_size(&new_drive) || !is_right_size(&old_drive))
         return 1;
-    read_counter();
-    write_counter(1000);
-    write_counter(1001);
-    read_counter();
-    write_counter(shape.v);
-    export_counter(300);
+    read_counter(&new_drive);
+    write_counter(&new_drive, 0);
+    read_counter(&new_drive);
+    write_counter(&new_drive, 1000);
+    write_counter(&new_drive, new_drive.shape.v);
+    read_counter(&new_drive);
+    read_counter(&old_drive);
+    write_counter(&old_drive, 1000);
+    write_counter(&old_drive, 1001);
+    export_counter(&old_drive, 300);
     return 0;
 }
