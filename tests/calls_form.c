@@ -111,8 +111,8 @@ static void check_reads(void)
         struct gorvlime_shape shape = {
             .form = reads[i].form, .m = reads[i].m, .t = reads[i].t, .v = reads[i].v,
         };
-        calling("read form %" PRIu64 " m %" PRIu64 " t %" PRIu64 " v %" PRIu64 " cells %s", shape.form, shape.m, shape.t,
-                shape.v, reads[i].cells);
+        calling("read form %" PRIu64 " m %" PRIu64 " t %" PRIu64 " v %" PRIu64 " cells %s", shape.form, shape.m,
+                shape.t, shape.v, reads[i].cells);
         struct gorvlime_reading r = CALL(read)(shape, LENT(cells));
         same("refusal", r.refusal, reads[i].refusal);
         same("generation", r.generation, reads[i].generation);

@@ -6,7 +6,7 @@
 
 #define RANGE ((uint64_t)1 << 56)
 
-/* The same number each time, and one write more; in form 0 the number is not 0, so that every write uses a generation up. */
+/* The same number each time, and one write more. In form 0 it is not 0, so that every write uses a generation up. */
 void check_chain(struct gorvlime_shape shape, uint64_t number);
 
 #endif
