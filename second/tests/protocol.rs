@@ -89,6 +89,25 @@ fn lines_of_layout_and_read() {
 }
 
 #[test]
+fn lines_of_forms() {
+    let answer = |form: u64, mut call: Call| {
+        if let Call::Layout { shape, .. } | Call::Read { shape, .. } | Call::Write { shape, .. } =
+            &mut call
+        {
+            shape.form = form;
+        }
+        line_of(call)
+    };
+    assert_eq!(answer(1, layout_call(4, 4)), "layout 0 4 3 2\n");
+    assert_eq!(answer(1, read_call(&[0x00])), "read 11\n");
+    assert_eq!(answer(1, read_call(&[0x01])), "read 0 1 0 2\n");
+    assert_eq!(answer(1, write_call(0, &[0x00])), "write 0 1 1 01\n");
+    assert_eq!(answer(2, layout_call(4, 4)), "layout 1\n");
+    assert_eq!(answer(2, read_call(&[0x01])), "read 1\n");
+    assert_eq!(answer(2, write_call(0, &[0x00])), "write 1 00\n");
+}
+
+#[test]
 fn lines_of_write_and_export() {
     assert_eq!(line_of(write_call(3, &[0x00])), "write 0 1 2 03\n");
     assert_eq!(line_of(write_call(1, &[0x4f])), "write 5 4f\n");
@@ -138,6 +157,28 @@ fn made_calls_come_back_from_their_bytes() {
         assert_eq!(step, Step::Call(call));
         assert!(rest.is_empty());
     }
+}
+
+/// The low byte of each number of a call on no cells.
+fn low_bytes(call: Call) -> Vec<u8> {
+    let bytes = call.to_bytes();
+    bytes[1..].iter().copied().step_by(8).collect()
+}
+
+#[test]
+fn the_form_stands_before_m_and_in_an_export_there_is_none() {
+    let shape = Shape { form: 1, ..SHAPE };
+    let (number, offered, cells) = (7, 9, Vec::new());
+    let layout = Call::Layout { shape, offered };
+    assert_eq!(low_bytes(layout), [1, 2, 3, 4, 9]);
+    let write = Call::Write {
+        shape,
+        number,
+        cells: cells.clone(),
+    };
+    assert_eq!(low_bytes(write), [1, 2, 3, 4, 7, 0]);
+    assert_eq!(low_bytes(Call::Read { shape, cells }), [1, 2, 3, 4, 0]);
+    assert_eq!(low_bytes(export_call(5, 6, &[])), [5, 2, 3, 4, 6, 0]);
 }
 
 #[test]
