@@ -64,8 +64,8 @@ enum gorvlime_refusal {
 };
 
 /*
- * What a field is like. It never changes for a field: reading by another shape, or by another form alone, gives other
- * numbers. Name the fields,
+ * What a field is like. It never changes for a field: another shape reads other numbers. The form does not change
+ * either: a drive that is in service with form 0 stays with it. Name the fields,
  *
  *     (struct gorvlime_shape){ .m = 2, .t = 10, .v = 1ull << 56 }               a drive in service
  *     (struct gorvlime_shape){ .form = 1, .m = 2, .t = 10, .v = 1ull << 56 }    a new drive

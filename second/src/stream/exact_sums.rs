@@ -23,16 +23,23 @@ fn shapes_with(m: u64, counting: &mut Counting) -> Vec<Shape> {
     let mut largest = last_ranges(erased);
     let mut shapes = Vec::new();
     for t in 2..=16 {
-        for next in 1..=HIGHEST_COUNT {
-            // Just these ranges have the second count `next`.
-            let ranges = largest[next - 1] + 1..=largest[next];
-            let sums = sums_up_to(*ranges.end(), erased, next, counting);
-            let exact = sums.into_iter().filter(|sum| ranges.contains(sum));
-            shapes.extend(exact.map(|v| Shape { form: 0, m, t, v }));
-        }
+        let sums = exact_sums(erased, &largest, counting);
+        shapes.extend(sums.into_iter().map(|v| Shape { form: 0, m, t, v }));
         largest = ranges_with_one_more(&largest, &rooms);
     }
     shapes
+}
+
+/// `largest` has for each count the largest range that it holds as the second one.
+fn exact_sums(erased: u64, largest: &[u64], counting: &mut Counting) -> Vec<u64> {
+    let mut exact = Vec::new();
+    for next in 1..=HIGHEST_COUNT {
+        // Just these ranges have the second count `next`.
+        let ranges = largest[next - 1] + 1..=largest[next];
+        let sums = sums_up_to(*ranges.end(), erased, next, counting);
+        exact.extend(sums.into_iter().filter(|sum| ranges.contains(sum)));
+    }
+    exact
 }
 
 /// For each count the largest range that it holds as the last one, condition d. As

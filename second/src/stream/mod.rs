@@ -117,13 +117,11 @@ impl Maker {
     fn make_layouts_around_a_sum(&mut self) {
         let exact = self.exact_sums[self.next_sum];
         self.next_sum = (self.next_sum + 1) % self.exact_sums.len();
-        for v in [exact.v - 1, exact.v, exact.v + 1] {
-            for form in [0, 1] {
-                self.waiting.push_back(Call::Layout {
-                    shape: Shape { form, v, ..exact },
-                    offered: GROUPS_OFFERED,
-                });
-            }
+        let offered = GROUPS_OFFERED;
+        let ranges = [exact.v - 1, exact.v, exact.v + 1].into_iter();
+        let in_both_forms = |v: u64| [0, 1].map(|form| Shape { form, v, ..exact });
+        for shape in ranges.flat_map(in_both_forms) {
+            self.waiting.push_back(Call::Layout { shape, offered });
         }
     }
 
