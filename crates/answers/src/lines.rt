@@ -167,6 +167,7 @@ fn put_record(out: &mut [u8], at: usize, dump: &[u8], rows: &[u64], from: usize)
 {
     let place = output::put_numbers(out, at, b"record", &rows[from..from + NUMBERS]);
     let s = Shape {
+        form: 0,
         m: rows[from + 1],
         t: rows[from + 2],
         v: rows[from + 3],

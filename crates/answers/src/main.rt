@@ -1,9 +1,9 @@
 // Answers the stream of calls on standard input, a line for each on standard output. A call is a byte that says which it is and its numbers, each as eight
 // bytes from the low one up; cells or a dump follow as one number more, which counts them, and the bytes themselves:
 //
-//     1 layout   m t v g                        layout 0 h_1 .. h_t | layout N
-//     2 read     m t v, cells                   read 0 generation number left | read N
-//     3 write    m t v number, cells            write 0 generation turned CELLS | write N CELLS
+//     1 layout   form m t v g                   layout 0 h_1 .. h_t | layout N
+//     2 read     form m t v, cells              read 0 generation number left | read N
+//     3 write    form m t v number, cells       write 0 generation turned CELLS | write N CELLS
 //     4 export   serial m t v outlen, cells     export 0 length OUT | export N OUT
 //     5 walk     dump                           record serial m t v start length 0 generation number left, or
 //                                               record serial m t v start length N, for each; end | stop 7 offset | stop 8
@@ -109,9 +109,9 @@ fn answer(
     let end = call.end;
     let room = call.room;
     match kind {
-        Kind::Layout => lines::put_layout(out, at, s, n[3]),
+        Kind::Layout => lines::put_layout(out, at, s, n[4]),
         Kind::Read => lines::put_read(out, at, s, &bytes[start..end]),
-        Kind::Write => lines::put_write(out, at, s, n[3], &mut bytes[start..end]),
+        Kind::Write => lines::put_write(out, at, s, n[4], &mut bytes[start..end]),
         Kind::Export => {
             let cells = &bytes[start..end];
             lines::put_export(out, at, n[0], n[1], n[2], n[3], cells, &mut lent[0..room])

@@ -3,7 +3,6 @@ use code::Shape;
 ghost use mathlib.Core.Path.{_≡_};
 ghost use Prim.Native.Nat.{_+_, _≤_, _<_};
 ghost use lib.ListN.{length, getD};
-ghost use Rattle.code.specs.Shape.{shaped};
 ghost use Rattle.answers.specs.Bounds.{Within};
 
 // A dump one byte too long to be walked still fits in a call.
@@ -33,7 +32,7 @@ pub enum Kind {
 // call.
 pub struct Call {
     pub kind: Kind,
-    pub numbers: [u64; 4],
+    pub numbers: [u64; 5],
     pub room: usize,
     pub start: usize,
     pub end: usize,
@@ -41,13 +40,15 @@ pub struct Call {
 
 // The shape that stands first in the numbers of a call.
 pub fn shape_of(call: Call) -> Shape
-    ensures { λ r. ⌜ r ≡ shaped (getD (call .numbers) 0 0) (getD (call .numbers) 1 0) (getD (call .numbers) 2 0) ⌝ }
+    ensures { λ r. ⌜ (r .form ≡ getD (call .numbers) 0 0) × (r .m ≡ getD (call .numbers) 1 0) ⌝ }
+    ensures { λ r. ⌜ (r .t ≡ getD (call .numbers) 2 0) × (r .v ≡ getD (call .numbers) 3 0) ⌝ }
 {
     let n = call.numbers;
     Shape {
-        m: n[0],
-        t: n[1],
-        v: n[2],
+        form: n[0],
+        m: n[1],
+        t: n[2],
+        v: n[3],
     }
 }
 
@@ -55,7 +56,7 @@ fn break_off(why: Broken) -> Call
     ensures { λ r. ⌜ (r .start ≡ 0) × (r .end ≡ 0) × (r .room ≡ 0) ⌝ }
 {
     let kind = Kind::Broken(why);
-    let numbers = [0u64; 4];
+    let numbers = [0u64; 5];
     Call {
         kind,
         numbers,
@@ -83,14 +84,14 @@ fn number_at(s: &[u8], at: usize) -> u64
 
 // The call with so many numbers, no output and no bytes.
 fn read_numbers(s: &[u8], kind: Kind, count: usize) -> Call
-    requires { ⌜ count ≤ 4 ⌝ }
+    requires { ⌜ count ≤ 5 ⌝ }
     ensures { λ r. ⌜ Within r (now (s .entry)) ⌝ }
 {
     let end = 1 + 8 * count;
     if s.len() < end {
         return break_off(Broken::CutOff);
     }
-    let mut numbers = [0u64; 4];
+    let mut numbers = [0u64; 5];
     let mut i = 0;
     while i < count {
         numbers[i] = number_at(s, 1 + 8 * i);
@@ -170,9 +171,9 @@ pub fn read_call(s: &[u8]) -> Call
     ensures { λ r. ⌜ Within r (now (s .entry)) ⌝ }
 {
     match s[0] {
-        1 => read_numbers(s, Kind::Layout, 4),
-        2 => read_bytes(s, read_numbers(s, Kind::Read, 3)),
-        3 => read_bytes(s, read_numbers(s, Kind::Write, 4)),
+        1 => read_numbers(s, Kind::Layout, 5),
+        2 => read_bytes(s, read_numbers(s, Kind::Read, 4)),
+        3 => read_bytes(s, read_numbers(s, Kind::Write, 5)),
         4 => read_bytes(s, read_room(s, read_numbers(s, Kind::Export, 4))),
         5 => read_bytes(s, read_numbers(s, Kind::Walk, 0)),
         6 => read_bytes(s, read_room(s, read_numbers(s, Kind::HexExport, 0))),

@@ -10,7 +10,7 @@ renew-spec =
     -- same-shape-requires
     (λ c κs. search needs)
     -- returns
-    (λ c. (c .before .same-shape .ensures (c .if1 .taken), c .before .before .before .pre))
+    (λ c. (c .before .same-shape .ensures (c .if1 .taken), c .before .before .pre))
     -- lay-into-requires
     (λ c κs. search needs)
     -- returns-2
