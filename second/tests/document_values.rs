@@ -1,7 +1,9 @@
 //! Every value that document 01 lists, in its order.
 
+mod common;
+
+use common::{read, reading, write, written};
 use second::dump::{self, Ending};
-use second::field::{self, Reading, Written};
 use second::layout::{Layouts, Shape};
 use second::listing::fieldlist;
 use second::refusal::Refusal;
@@ -22,30 +24,6 @@ const RANGE_20: Shape = Shape {
 fn granted(m: u64, t: u64, v: u64, offered: u64) -> Result<Vec<usize>, Refusal> {
     let layout = Layouts::default().grant(Shape { form: 0, m, t, v }, offered);
     layout.map(|layout| layout.counts().to_vec())
-}
-
-fn write(shape: Shape, number: u64, cells: &[u8]) -> Result<Written, Refusal> {
-    field::write(shape, number, cells, &mut Layouts::default())
-}
-
-fn read(shape: Shape, cells: &[u8]) -> Result<Reading, Refusal> {
-    field::read(shape, cells, &mut Layouts::default())
-}
-
-fn written(generation: usize, turned: u64, cells: &[u8]) -> Result<Written, Refusal> {
-    Ok(Written {
-        generation,
-        turned,
-        cells: cells.to_vec(),
-    })
-}
-
-fn reading(generation: usize, number: u64, left: usize) -> Result<Reading, Refusal> {
-    Ok(Reading {
-        generation,
-        number,
-        left,
-    })
 }
 
 #[test]

@@ -1,7 +1,10 @@
 //! Form 1 of document 02, "A new drive is not a zero", beside form 0.
 
+mod common;
+
+use common::{read, reading, write, written};
 use second::cells;
-use second::field::{self, Reading, Written};
+use second::field;
 use second::layout::{Layouts, Shape};
 use second::refusal::Refusal;
 
@@ -26,30 +29,6 @@ fn granted(shape: Shape, layouts: &mut Layouts) -> Result<Vec<usize>, Refusal> {
 
 fn list(shape: Shape) -> Result<Vec<usize>, Refusal> {
     granted(shape, &mut Layouts::default())
-}
-
-fn read(shape: Shape, cells: &[u8]) -> Result<Reading, Refusal> {
-    field::read(shape, cells, &mut Layouts::default())
-}
-
-fn write(shape: Shape, number: u64, cells: &[u8]) -> Result<Written, Refusal> {
-    field::write(shape, number, cells, &mut Layouts::default())
-}
-
-fn written(generation: usize, turned: u64, cells: &[u8]) -> Result<Written, Refusal> {
-    Ok(Written {
-        generation,
-        turned,
-        cells: cells.to_vec(),
-    })
-}
-
-fn reading(generation: usize, number: u64, left: usize) -> Result<Reading, Refusal> {
-    Ok(Reading {
-        generation,
-        number,
-        left,
-    })
 }
 
 #[test]

@@ -22,8 +22,8 @@ abbrev pub Fits : ℕ → List ℕ → Type 0
 Fits at out = (at ≤ length out) × (pieceMost ≤ length out)
 
 -- what is not yet answered stands within the buffer
-abbrev pub Held : Window → List ℕ → Type 0
-Held w buffer = (w .at ≤ w .end) × (w .end ≤ length buffer)
+abbrev pub InBuffer : Window → List ℕ → Type 0
+InBuffer w buffer = (w .at ≤ w .end) × (w .end ≤ length buffer)
 
 -- a call and its bytes stand within the bytes that it was read from, and the output that it asks for is within the limit
 pub record Within (c : Call) (bytes : List ℕ) : Type 0 where

@@ -3,7 +3,7 @@ ghost use mathlib.Core.Path.{_≡_};
 ghost use mathlib.Core.Bool.{false};
 ghost use Prim.Native.Nat.{_+_, _≤_};
 ghost use lib.ListN.{length};
-ghost use Rattle.answers.specs.Bounds.{callMost, Held};
+ghost use Rattle.answers.specs.Bounds.{callMost, InBuffer};
 
 // What is read and not yet answered stands from `at` to `end`; where the input has ended, that is all.
 pub struct Window {
@@ -17,8 +17,8 @@ const CALL_MOST: usize = 65586;
 
 // Reads on where what is left might not be a whole call.
 pub fn refill(buffer: &mut [u8], w: Window) -> Window
-    requires { ⌜ Held w (now buffer) × (callMost ≤ length (now buffer)) ⌝ }
-    ensures { λ r. ⌜ Held r (now (buffer .exit)) × (r .ended ≡ false → r .at + callMost ≤ r .end) ⌝ }
+    requires { ⌜ InBuffer w (now buffer) × (callMost ≤ length (now buffer)) ⌝ }
+    ensures { λ r. ⌜ InBuffer r (now (buffer .exit)) × (r .ended ≡ false → r .at + callMost ≤ r .end) ⌝ }
 {
     if w.ended {
         return w;

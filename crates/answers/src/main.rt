@@ -23,7 +23,7 @@ use protocol::Kind;
 ghost use Prim.Native.Nat.{_≤_};
 ghost use lib.ListN.{length};
 ghost use Rattle.dump.specs.Answers.{rowLength};
-ghost use Rattle.answers.specs.Bounds.{callMost, outputMost, Fits, Held, Within};
+ghost use Rattle.answers.specs.Bounds.{callMost, outputMost, Fits, InBuffer, Within};
 
 fn main() {
     let mut buffer = [0u8; 81920];
@@ -62,8 +62,8 @@ fn answer_all(buffer: &mut [u8], rows: &mut [u64], out: &mut [u8])
 }
 
 fn answer_next(buffer: &mut [u8], s: State, rows: &mut [u64], out: &mut [u8]) -> State
-    requires { ⌜ Held (s .window) (now buffer) × (callMost ≤ length (now buffer)) × (rowLength ≤ length (now rows)) × Fits (s .place) (now out) ⌝ }
-    ensures { λ r. ⌜ Held (r .window) (now (buffer .exit)) × Fits (r .place) (now (out .exit)) ⌝ }
+    requires { ⌜ InBuffer (s .window) (now buffer) × (callMost ≤ length (now buffer)) × (rowLength ≤ length (now rows)) × Fits (s .place) (now out) ⌝ }
+    ensures { λ r. ⌜ InBuffer (r .window) (now (buffer .exit)) × Fits (r .place) (now (out .exit)) ⌝ }
 {
     let window = input::refill(buffer, s.window);
     let at = window.at;

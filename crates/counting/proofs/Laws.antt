@@ -134,7 +134,7 @@ two-more n j p h e =
     move c c′ c″ x y p q = omega (arith, ap (λ (z : ℕ). z * y) p, ap (λ (z : ℕ). z * suc j) q)
 
 -- the sum so far and its last term; j is the last written count in it
-pub record Sum (b s first k term sum j : ℕ) : Type 0 where
+pub record SumSoFar (b s first k term sum j : ℕ) : Type 0 where
   pub low : first ≤ j
   pub more : j < k
   pub is-term : term ≡ choose s j * b ^ j
@@ -150,7 +150,7 @@ unfolding choose
 fewer-one b s zero h = omega (arith, fewer-step b s 0 0 (omega arith), fewer-none b s 0 0 (omega arith), pow-zero b)
 fewer-one b s (suc first) h = omega (arith, fewer-none b s (suc first) 1 (omega arith))
 
-pub sum-begin : (b s first k : ℕ) → first ≤ 1 → 1 < k → s * b ≤ 3840 → Sum b s first k (s * b) (1 - first + s * b) 1
+pub sum-begin : (b s first k : ℕ) → first ≤ 1 → 1 < k → s * b ≤ 3840 → SumSoFar b s first k (s * b) (1 - first + s * b) 1
 sum-begin b s first k f h l = record {
   low = f;
   more = h;
@@ -160,7 +160,7 @@ sum-begin b s first k f h l = record {
   small = omega arith;
 }
 
-module _ (b s first k term sum j : ℕ) (S : Sum b s first k term sum j) (h : j + 1 < k) where
+module _ (b s first k term sum j : ℕ) (S : SumSoFar b s first k term sum j) (h : j + 1 < k) where
   sum-grown : fewer b s first (suc (suc j)) ≡ sum + choose s (suc j) * b ^ suc j
   sum-grown = omega (arith, fewer-step b s first (suc j) (omega (arith, S .low)), S .is-sum)
 
@@ -168,11 +168,11 @@ module _ (b s first k term sum j : ℕ) (S : Sum b s first k term sum j) (h : j 
   pub sum-over : cap ≤ sum + choose s (suc j) * b ^ suc j → cap ≤ fewer b s first k
   sum-over l = omega (arith, sum-grown, fewer-grows b s first (suc (suc j)) k (omega arith))
 
-  pub sum-turn : (t : ℕ) → t ≡ choose s (suc j) * b ^ suc j → sum + t < cap → Sum b s first k t (sum + t) (j + 1)
+  pub sum-turn : (t : ℕ) → t ≡ choose s (suc j) * b ^ suc j → sum + t < cap → SumSoFar b s first k t (sum + t) (j + 1)
   sum-turn t e l =
       rw add-one (record { low = omega (arith, S .low); more = omega arith; is-term = e; is-sum = omega (arith, sum-grown); within = omega arith; small = l })
 
-pub sum-end : (b s first k term sum j : ℕ) → Sum b s first k term sum j → k ≤ j + 1 → sum ≡ sat (fewer b s first k)
+pub sum-end : (b s first k term sum j : ℕ) → SumSoFar b s first k term sum j → k ≤ j + 1 → sum ≡ sat (fewer b s first k)
 sum-end b s first k term sum j S h = let e : k ≡ suc j = omega (arith, S .more) in rw e (omega (arith, S .is-sum, S .small))
 
 -- the next term, with q the quotient that the code makes

@@ -23,7 +23,7 @@ use Rattle.dump.specs.declared.Halt.{Halt}
 use Rattle.dump.specs.declared.Step.{Step}
 use Rattle.dump.specs.declared.Step.the-variants.{Record, End, Stop}
 use Rattle.dump.proofs.Walking.{gives-record, gives-end, gives-stop, record-further}
-use Rattle.listing.specs.Listing.{linesMost, Refusing, haltLines, textLeft, Standing, GoesOn, Closed, Tells, Fills}
+use Rattle.listing.specs.Listing.{linesMost, Refusing, haltLines, textLeft, Standing, GoesOn, Closed, LinesTold, Fills}
 use Rattle.listing.specs.declared.Listing.{Listing}
 use Rattle.listing.specs.declared.Told.{Told}
 
@@ -55,7 +55,7 @@ same-listing {s} {r} a b c =
 -- so each step's lines are told
 module _ {bytes : List ℕ} {l : Listing} {before after : List ℕ} {at : ℕ} {r : Told} (on : l .over ≡ false) where
   closes : (piece : List ℕ) → textFrom bytes (l .next) (l .count) ≡ piece → Closed (r .listing) →
-      PutWithin linesMost before after at piece (r .end) → Tells bytes l before after at r
+      PutWithin linesMost before after at piece (r .end) → LinesTold bytes l before after at r
   closes piece e c p = record {
     piece = piece;
     put = p;
@@ -66,7 +66,7 @@ module _ {bytes : List ℕ} {l : Listing} {before after : List ℕ} {at : ℕ} {
 
   module _ {s : Step} (gives : stepOf s ≡ stepReply bytes (l .next)) where
     pub tells-record : {p : Declared.Record} {reading : Reading} {behind : Listing} → s ≡ Record p reading → GoesOn l (p .start + p .count) behind →
-        (r .listing ≡ behind) × PutWithin linesMost before after at (recordLine (p .serial) (readingOf reading)) (r .end) → Tells bytes l before after at r
+        (r .listing ≡ behind) × PutWithin linesMost before after at (recordLine (p .serial) (readingOf reading)) (r .end) → LinesTold bytes l before after at r
     tells-record {p = entry} {reading} e g p = record {
       piece = recordLine (entry .serial) (readingOf reading);
       put = p .1;
@@ -75,11 +75,11 @@ module _ {bytes : List ℕ} {l : Listing} {before after : List ℕ} {at : ℕ} {
       further = rw (p .0, g .further) (λ q. record-further bytes (l .next) gives e .0);
     }
 
-    pub tells-end : s ≡ End → Closed (r .listing) → PutWithin closingLine before after at (lastLine (l .count)) (r .end) → Tells bytes l before after at r
+    pub tells-end : s ≡ End → Closed (r .listing) → PutWithin closingLine before after at (lastLine (l .count)) (r .end) → LinesTold bytes l before after at r
     tells-end e c p = closes (lastLine (l .count)) (end-text bytes (l .next) gives (l .count) e) c (wider (omega arith) p)
 
     pub tells-stop : {halt : Halt} → s ≡ Stop halt → Closed (r .listing) →
-        PutWithin linesMost before after at (haltLines (l .count) halt) (r .end) → Tells bytes l before after at r
+        PutWithin linesMost before after at (haltLines (l .count) halt) (r .end) → LinesTold bytes l before after at r
     tells-stop {halt} e c p = closes (haltLines (l .count) halt) (stop-text bytes (l .next) gives (l .count) e) c p
 
 -- lines one after the other fill the front of the output
@@ -111,7 +111,7 @@ module _ {bytes : List ℕ} {start : Listing} {before after : List ℕ} {s : Lis
       let front : take end after ≡ f .told = rw (put-pastes (f .put) (f .inside)) (take-at (f .told) (drop end before) end (omega (arith, f .put .ends))) in
       record { text = rw front (f .text); inside = omega (arith, f .inside, f .same); standing = f .standing; further = further }
 
-  pub filling-next : {last : List ℕ} {r : Told} → s .over ≡ false → linesMost ≤ length before - end → Tells bytes s after last end r →
+  pub filling-next : {last : List ℕ} {r : Told} → s .over ≡ false → linesMost ≤ length before - end → LinesTold bytes s after last end r →
       Filling bytes start before last (r .listing) (r .end)
   filling-next {last} {r} on room t = record {
     told = f .told ++ t .piece;

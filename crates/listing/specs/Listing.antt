@@ -44,7 +44,7 @@ abbrev pub Closed : Listing → Type 0
 Closed s = Standing s × (s .over ≡ true)
 
 -- a step's lines are told from a place of the output on
-pub record Tells (bytes : List ℕ) (s : Listing) (before after : List ℕ) (at : ℕ) (r : Told) : Type 0 where
+pub record LinesTold (bytes : List ℕ) (s : Listing) (before after : List ℕ) (at : ℕ) (r : Told) : Type 0 where
   pub piece : List ℕ
   pub put : PutWithin linesMost before after at piece (r .end)
   pub text : textLeft bytes s ≡ piece ++ textLeft bytes (r .listing)

@@ -10,7 +10,7 @@ ghost use Rattle.code.specs.Dump.{stepReply, recordLine};
 ghost use Rattle.field.specs.Answers.{readingOf};
 ghost use Rattle.text.specs.Within.{PutWithin};
 ghost use Rattle.dump.specs.Answers.{dumpMost, stepOf};
-ghost use Rattle.listing.specs.Listing.{linesMost, Refusing, haltLines, Standing, GoesOn, Closed, Tells, Fills};
+ghost use Rattle.listing.specs.Listing.{linesMost, Refusing, haltLines, Standing, GoesOn, Closed, LinesTold, Fills};
 
 // The most bytes that a step's lines take.
 const LINES_MOST: usize = 84;
@@ -95,7 +95,7 @@ fn put_halt_lines(out: &mut [u8], at: usize, count: u64, halt: Halt) -> usize
 fn tell_step(dump: &[u8], s: Listing, step: Step, out: &mut [u8], at: usize) -> Told
     requires { ⌜ Standing s × (s .over ≡ false) × (at + linesMost ≤ length (now out)) ⌝ }
     requires { ⌜ stepOf «step» ≡ stepReply (now dump) (s .next) ⌝ }
-    ensures { λ r. ⌜ Tells (now (dump .entry)) s (now (out .entry)) (now (out .exit)) at r ⌝ }
+    ensures { λ r. ⌜ LinesTold (now (dump .entry)) s (now (out .entry)) (now (out .exit)) at r ⌝ }
 {
     match step {
         Step::Record { record, outcome } => {

@@ -4,12 +4,12 @@ use native.Mathlib.Nat.{mul-le-mul}
 use native.Mathlib.Omega.{arith}
 use borrow.Author.Needs.{needs}
 use Rattle.code.proofs.Count.{fewer-none}
-use Rattle.counting.proofs.Laws.{Sum, fewer-one, sum-begin, sum-over, sum-turn, sum-end, small-product, term-room, term-next, term-far}
+use Rattle.counting.proofs.Laws.{SumSoFar, fewer-one, sum-begin, sum-over, sum-turn, sum-end, small-product, term-room, term-next, term-far}
 use Rattle.counting.proofs.fewer.Statement.{statement}
 use Rattle.counting.proofs.fewer.Tie as tie
 
 abbrev Inv-loop : tie.InvT-loop
-Inv-loop b first s k term₀ sum₀ j₀ term sum j = Sum b s first k term sum j
+Inv-loop b first s k term₀ sum₀ j₀ term sum j = SumSoFar b s first k term sum j
 
 abbrev μ-loop : tie.MeasureT-loop
 μ-loop b first s k term₀ sum₀ j₀ term sum j = k - j
