@@ -29,7 +29,8 @@ module _ (fuel : ℕ) (done text : List ℕ) where
   unfolding importFrom
   from-ended h e = rw (h, e, importFrom)
 
-  from-taken : lineRefusal (length done) text ≡ [] → isEnd text ≡ false → importFrom (suc fuel) done text ≡ importFrom fuel (done ++ lineData text) (nextLine text)
+  from-taken : lineRefusal (length done) text ≡ [] → isEnd text ≡ false →
+      importFrom (suc fuel) done text ≡ importFrom fuel (done ++ lineData text) (nextLine text)
   unfolding importFrom
   from-taken h e = rw (h, e, importFrom)
 

@@ -57,7 +57,8 @@ module _ (s : Shape) (bs : List ℕ) where
       unfolding generation holds left unreadable numberless
       read-as i x t = go (fieldRead s bs) t (read-found (fieldRead s bs) refl)
         where
-          go : (r : Reading) → Tells (firstOf s) r i x → (numberless s r ≡ false → unreadable r ≡ false → readReply s bs ≡ 0 ∷ generation r ∷ holds r ∷ left (s .t) r ∷ []) →
+          go : (r : Reading) → Tells (firstOf s) r i x → (numberless s r ≡ false → unreadable r ≡ false →
+              readReply s bs ≡ 0 ∷ generation r ∷ holds r ∷ left (s .t) r ∷ []) →
               readReply s bs ≡ 0 ∷ i ∷ x ∷ left (s .t) r ∷ []
           go blank t q = rw (t .1, t .2) (q (rw (first-old s (t .0))) refl)
           go (reads j y) t q = rw (t .0, t .1) (q refl refl)

@@ -103,7 +103,11 @@ module _ {b text c : List ℕ} {at done all : ℕ} (s : DataStored b text c at d
     unfolding checking-next
     loaded-next d n p =
         let e : n ≡ done + dataCount line = omega (arith, p .ends, data-length line) in
-        rw e record { checking = checking-next (s .checking) (dataCount line) (lineSize line) loaded-judged; put = put-then (s .put) (rw e at p); whole = s .whole }
+        rw e record {
+          checking = checking-next (s .checking) (dataCount line) (lineSize line) loaded-judged;
+          put = put-then (s .put) (rw e at p);
+          whole = s .whole;
+        }
 
   pub loaded-end : all ≤ done → Put b c 0 (bytesOf (hexImport text)) done
   unfolding bytesOf

@@ -27,7 +27,8 @@ told c =
     rw (take-all (length text - at) (drop at text) (omega (arith, length-drop at text))) at (c .judge-line .ensures)
 
 taken : (c : tie.After-known-told3 Inv-loop μ-loop) → let judged = c .before .before .before in let s = judged .before .before .loop in
-    Judges (s .done) (drop (s .at) (now (judged .before .before .before .before .args .text))) (Data (c .before .count .given .0 .0) (c .before .count .given .0 .1 .0))
+    Judges (s .done) (drop (s .at) (now (judged .before .before .before .before .args .text)))
+    (Data (c .before .count .given .0 .0) (c .before .count .given .0 .1 .0))
 taken c = subst (Judges _ _) (c .before .count .given .1) (told (c .before .before .before))
 
 next : (c : tie.After-known-told3 Inv-loop μ-loop) → let judged = c .before .before .before in let s = judged .before .before .loop in

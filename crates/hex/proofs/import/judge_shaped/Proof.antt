@@ -35,10 +35,12 @@ bare c = laden-is (numbered (c .before .before)) ∙ sym (c .before .is-laden-en
 summed : (c : tie.Else2) → wrongSum (lineOf (c .before .before .before .before)) ≡ false
 summed c = sum-is (numbered (c .before .before .before .before)) ∙ rw (c .if2 .left)
 
-placed : (c : tie.Else3) → let d = c .before .before .before .before .before .before in displaced (d .before .before .before .before .args .done) (lineOf d) ≡ false
+placed : (c : tie.Else3) → let d = c .before .before .before .before .before .before in
+    displaced (d .before .before .before .before .args .done) (lineOf d) ≡ false
 placed c = displaced-is (numbered (c .before .before .before .before .before .before)) _ ∙ sym (c .before .is-displaced .ensures) ∙ c .if3 .left
 
-passes : (c : tie.Else4) → let d = c .before .before .before .before .before .before .before in lineRefusal (d .before .before .before .before .args .done) (lineOf d) ≡ []
+passes : (c : tie.Else4) → let d = c .before .before .before .before .before .before .before in
+    lineRefusal (d .before .before .before .before .args .done) (lineOf d) ≡ []
 passes c =
     let summed-here = c .before .before .before in
     let bare-here = summed-here .before .before in

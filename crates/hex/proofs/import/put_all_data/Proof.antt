@@ -33,7 +33,8 @@ part-is c = take-all (length (textOf c) - c .before .loop .at) (lineOf c) (omega
 
 -- the line lies in the text
 room : (c : tie.In-loop Inv-loop μ-loop) →
-    (c .before .loop .at + length (lineOf c) ≡ length (textOf c)) × (lineSize (lineOf c) ≤ length (lineOf c)) × (11 + 2 * dataCount (lineOf c) < length (lineOf c))
+    (c .before .loop .at + length (lineOf c) ≡ length (textOf c)) × (lineSize (lineOf c) ≤ length (lineOf c)) ×
+    (11 + 2 * dataCount (lineOf c) < length (lineOf c))
 room c =
     let s = loaded-shaped (c .before .loop .inv) (c .loop-test .taken) in
     let within = size-within (lineOf c) s in
@@ -42,7 +43,8 @@ room c =
 count-told : (c : tie.After-byte-at Inv-loop μ-loop) → dataCount (lineOf (c .before .before)) ≡ c .byte-at .result
 count-told c = count-is (lineOf (c .before .before)) ∙ sym (rw (part-is (c .before .before)) at (c .byte-at .ensures .0))
 
-size-told : (c : tie.After-line-size Inv-loop μ-loop) → c .line-size .result ≡ lineSize (lineOf (c .before .before .before .before .before .before .before .before .before))
+size-told : (c : tie.After-line-size Inv-loop μ-loop) → c .line-size .result ≡
+    lineSize (lineOf (c .before .before .before .before .before .before .before .before .before))
 size-told c = rw (part-is (c .before .before .before .before .before .before .before .before .before)) at (c .line-size .ensures)
 
 -- the lines up to the next one are loaded

@@ -23,7 +23,8 @@ count-told c = count-is (lineOf c) ∙ sym (c .byte-at .ensures .0)
 bytes-told : (c : tie.After-byte-at) → lineBytes (lineOf c) ≡ spelledBytes (5 + c .byte-at .result) (drop 1 (lineOf c))
 bytes-told c = rw (count-told c) at (bytes-are (lineOf c))
 
-end-told : (c : tie.After-end-at) → let counted = c .before .before .before in c .end-at .result ≡ lineEnd (drop (11 + 2 * dataCount (lineOf counted)) (lineOf counted))
+end-told : (c : tie.After-end-at) → let counted = c .before .before .before in
+    c .end-at .result ≡ lineEnd (drop (11 + 2 * dataCount (lineOf counted)) (lineOf counted))
 end-told c = rw (count-told (c .before .before .before)) (c .end-at .ensures)
 
 pub tell-shape-spec : {M : Type 1} → statement M
