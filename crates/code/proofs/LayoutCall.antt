@@ -106,7 +106,7 @@ range-at s n l = getD-replicate (s .t) n (s .v) 0 l
 
 pub granted-length : (s : Shape) (g : ℕ) → length (granted s g) ≡ s .t
 unfolding granted
-granted-length s g = grant-length g (s .m) (firstOf s) (rangesOf s) ∙ ranges-length s
+granted-length s g = grant-length g (s .m) _ (rangesOf s) ∙ ranges-length s
 
 pub first-form : (s : Shape) → firstOf s ≤ 1
 unfolding firstOf

@@ -1,4 +1,6 @@
 pub mod Agreed
+pub mod HexExamples
+pub mod NewForm
 pub mod Tests
 pub mod Count
 pub mod Deal
@@ -30,9 +32,7 @@ pub mod Walk
 pub mod ExportCall
 pub mod Steps
 pub mod Closing
-pub mod HexExamples
 pub mod HexLines
 pub mod HexText
 pub mod HexImport
 pub mod HexCalls
-pub mod NewForm

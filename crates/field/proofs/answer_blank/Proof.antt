@@ -1,4 +1,5 @@
 -- `field::answer_blank` meets its contract. Assumes nothing.
+use native.Mathlib.Omega.{arith}
 use borrow.Author.Tests.{ne-eqb}
 use Rattle.field.proofs.answer_blank.Statement.{statement}
 use Rattle.field.proofs.answer_blank.Tie as tie
@@ -8,6 +9,6 @@ answer-blank-spec =
     tie.close
     (tie.spec
     -- returns
-    (λ c. rw (ne-eqb _ 0 (c .if1 .taken)))
+    (λ c. rw (ne-eqb (c .before .before .args .s .form) 0 (λ z. omega arith)))
     -- returns-2
     (λ c. rw (c .if1 .left)))
