@@ -3,7 +3,8 @@
 use crate::cells;
 use crate::field::{self, Reading};
 use crate::layout::{Layouts, OldShape, GROUPS_OFFERED};
-use crate::refusal::Refusal;
+use crate::refusal::{Refusal, Refused};
+use crate::storing::store_in_front;
 
 pub const LONGEST_DUMP: usize = 65_536;
 pub const LARGEST_SERIAL: u64 = (1 << 63) - 1;
@@ -38,8 +39,13 @@ pub fn number_in_front(bytes: &[u8]) -> Option<(u64, &[u8])> {
 
 /// "A record is serial, m, t, v, n as numbers, then n bytes."
 pub fn record_bytes(serial: u64, shape: OldShape, cells: &[u8]) -> Vec<u8> {
-    let numbers = [serial, shape.m, shape.t, shape.v, cells.len() as u64];
-    let mut record: Vec<u8> = numbers.into_iter().flat_map(number_bytes).collect();
+    record_with_head(&[serial, shape.m, shape.t, shape.v], cells)
+}
+
+/// The numbers that stand before n, then n and n bytes.
+pub fn record_with_head(head: &[u64], cells: &[u8]) -> Vec<u8> {
+    let numbers = head.iter().copied().chain([cells.len() as u64]);
+    let mut record: Vec<u8> = numbers.flat_map(number_bytes).collect();
     record.extend_from_slice(cells);
     record
 }
@@ -58,12 +64,7 @@ pub fn export(
     }
     let layout = layouts.grant(shape.in_form_0(), GROUPS_OFFERED)?;
     cells::groups_of(&layout, cells)?;
-    let record = record_bytes(serial, shape, cells);
-    let front = output
-        .get_mut(..record.len())
-        .ok_or(Refusal::OutputTooShort)?;
-    front.copy_from_slice(&record);
-    Ok(record.len())
+    store_in_front(&record_bytes(serial, shape, cells), output)
 }
 
 /// One whole record of a dump. `start` is where its cell bytes begin in the
@@ -89,6 +90,17 @@ pub enum Ending {
     EndOfDump,
 }
 
+impl Ending {
+    /// What stopped a walk.
+    pub fn refused(self) -> Option<Refused> {
+        match self {
+            Ending::TooLong => Some(Refusal::TooManyBytes.into()),
+            Ending::Malformed { offset } => Some(Refused::malformed_at(offset)),
+            Ending::EndOfDump => None,
+        }
+    }
+}
+
 #[derive(Clone, Debug, PartialEq, Eq)]
 pub struct Walk<'dump> {
     pub records: Vec<Record<'dump>>,
@@ -96,55 +108,82 @@ pub struct Walk<'dump> {
 }
 
 pub fn walk<'dump>(dump: &'dump [u8], layouts: &mut Layouts) -> Walk<'dump> {
-    let mut records = Vec::new();
-    if dump.len() > LONGEST_DUMP {
-        return Walk {
-            records,
-            ending: Ending::TooLong,
-        };
-    }
-    let mut rest = dump;
-    while !rest.is_empty() {
-        let offset = dump.len() - rest.len();
-        let (header, cells, after) = match record_in_front(rest) {
-            Some(parts) => parts,
-            None => {
-                let ending = Ending::Malformed { offset };
-                return Walk { records, ending };
-            }
-        };
-        records.push(Record {
-            serial: header.serial,
-            shape: header.shape,
-            start: dump.len() - after.len() - cells.len(),
-            cells,
-            outcome: field::read(header.shape.in_form_0(), cells, layouts),
-        });
-        rest = after;
-    }
-    let ending = Ending::EndOfDump;
+    let (unread, ending) = unread_records(dump);
+    let read = |record: Unread<'dump, Head>| Record {
+        serial: record.head.serial,
+        shape: record.head.shape,
+        start: record.start,
+        cells: record.cells,
+        outcome: field::read(record.head.shape.in_form_0(), record.cells, layouts),
+    };
+    let records = unread.into_iter().map(read).collect();
     Walk { records, ending }
 }
 
-struct Header {
-    serial: u64,
-    shape: OldShape,
+/// A whole record whose cells nobody has looked at. The head is what stands before
+/// the count of its cell bytes.
+pub struct Unread<'dump, H> {
+    pub head: H,
+    pub start: usize,
+    pub cells: &'dump [u8],
 }
 
-/// Header, cell bytes and what follows the record; nothing where it is
-/// malformed.
-fn record_in_front(bytes: &[u8]) -> Option<(Header, &[u8], &[u8])> {
+#[derive(Clone, Copy)]
+pub struct Head {
+    pub serial: u64,
+    pub shape: OldShape,
+}
+
+pub fn unread_records(dump: &[u8]) -> (Vec<Unread<'_, Head>>, Ending) {
+    if dump.len() > LONGEST_DUMP {
+        return (Vec::new(), Ending::TooLong);
+    }
+    unread_from(0, dump, head_in_front)
+}
+
+fn head_in_front(bytes: &[u8]) -> Option<(Head, &[u8])> {
     let (serial, bytes) = number_in_front(bytes)?;
     let (m, bytes) = number_in_front(bytes)?;
     let (t, bytes) = number_in_front(bytes)?;
     let (v, bytes) = number_in_front(bytes)?;
+    let shape = OldShape { m, t, v };
+    Some((Head { serial, shape }, bytes))
+}
+
+/// The records from an offset up to the dump's end or to the first malformed one.
+/// `head_in_front` gives a record's head and what follows it, or nothing where it is
+/// malformed.
+pub fn unread_from<H>(
+    first: usize,
+    dump: &[u8],
+    head_in_front: impl Fn(&[u8]) -> Option<(H, &[u8])>,
+) -> (Vec<Unread<'_, H>>, Ending) {
+    let mut records = Vec::new();
+    let mut rest = &dump[first..];
+    while !rest.is_empty() {
+        let parts = head_in_front(rest).and_then(|(head, behind)| {
+            let (cells, after) = counted_in_front(behind)?;
+            Some((head, cells, after))
+        });
+        let offset = dump.len() - rest.len();
+        let (head, cells, after) = match parts {
+            Some(parts) => parts,
+            None => return (records, Ending::Malformed { offset }),
+        };
+        let start = dump.len() - after.len() - cells.len();
+        records.push(Unread { head, start, cells });
+        rest = after;
+    }
+    (records, Ending::EndOfDump)
+}
+
+/// n, then n bytes, and what follows them.
+fn counted_in_front(bytes: &[u8]) -> Option<(&[u8], &[u8])> {
     let (n, bytes) = number_in_front(bytes)?;
     // "Fewer than n bytes after n": n may be 2^63 − 1, so it is held against
     // what is left and never added to an offset.
     if n > bytes.len() as u64 {
         return None;
     }
-    let (cells, after) = bytes.split_at(n as usize);
-    let shape = OldShape { m, t, v };
-    Some((Header { serial, shape }, cells, after))
+    Some(bytes.split_at(n as usize))
 }

@@ -2,6 +2,7 @@
 //! and such a text to bytes.
 
 use crate::refusal::Refusal;
+use crate::storing::store_in_front;
 
 pub const MOST_BYTES: usize = 65_536;
 
@@ -27,14 +28,6 @@ pub fn export(bytes: &[u8], output: &mut [u8]) -> Result<usize, Refusal> {
 /// many bytes it stored at the front of the output.
 pub fn import(text: &[u8], output: &mut [u8]) -> Result<usize, Refusal> {
     store_in_front(&bytes_of(text)?, output)
-}
-
-fn store_in_front(bytes: &[u8], output: &mut [u8]) -> Result<usize, Refusal> {
-    let front = output
-        .get_mut(..bytes.len())
-        .ok_or(Refusal::OutputTooShort)?;
-    front.copy_from_slice(bytes);
-    Ok(bytes.len())
 }
 
 /// The standard text of at most 65,536 bytes.

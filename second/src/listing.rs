@@ -1,16 +1,33 @@
 //! What `fieldlist` prints.
 
-use crate::dump::{self, Ending, Record};
+use crate::dump::{self, Ending};
+use crate::field::Reading;
 use crate::layout::Layouts;
+use crate::newdump;
 use crate::refusal::Refusal;
+
+pub fn fieldlist(dump: &[u8], layouts: &mut Layouts) -> String {
+    let walk = dump::walk(dump, layouts);
+    let records = walk.records.iter();
+    let lines = records.map(|record| line(record.serial, record.outcome));
+    listing(lines, walk.ending)
+}
+
+/// The same lines for a new dump. A broken layout list stops it before any record.
+pub fn fieldlist_new(dump: &[u8], layouts: &mut Layouts) -> String {
+    let walk = newdump::walk(dump, layouts);
+    let records = walk.records.iter();
+    let lines = records.map(|record| line(record.serial, record.outcome));
+    listing(lines, walk.ending)
+}
 
 /// "One line per record", then "`stopped 7 at OFFSET`" where the walk was
 /// stopped; "the last line is `records N`, N counting whole records. At refusal
 /// 8 the only line is `refused 8`."
-pub fn fieldlist(dump: &[u8], layouts: &mut Layouts) -> String {
-    let walk = dump::walk(dump, layouts);
-    let mut lines: Vec<String> = walk.records.iter().map(record_line).collect();
-    match walk.ending {
+fn listing(records: impl Iterator<Item = String>, ending: Ending) -> String {
+    let mut lines: Vec<String> = records.collect();
+    let count = lines.len();
+    match ending {
         Ending::TooLong => return format!("refused {}\n", Refusal::TooManyBytes.number()),
         Ending::Malformed { offset } => {
             let refusal = Refusal::MalformedRecord.number();
@@ -18,16 +35,16 @@ pub fn fieldlist(dump: &[u8], layouts: &mut Layouts) -> String {
         }
         Ending::EndOfDump => {}
     }
-    lines.push(format!("records {}", walk.records.len()));
+    lines.push(format!("records {}", count));
     lines.join("\n") + "\n"
 }
 
-fn record_line(record: &Record) -> String {
-    match record.outcome {
+fn line(serial: u64, outcome: Result<Reading, Refusal>) -> String {
+    match outcome {
         Ok(reading) => format!(
             "{} {} {} {}",
-            record.serial, reading.generation, reading.number, reading.left
+            serial, reading.generation, reading.number, reading.left
         ),
-        Err(refusal) => format!("{} refused {}", record.serial, refusal.number()),
+        Err(refusal) => format!("{} refused {}", serial, refusal.number()),
     }
 }

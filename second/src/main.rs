@@ -18,9 +18,9 @@ const USAGE: &str = "usage:
   second answers                   answer the stream of calls on standard input
   second stream SEED CALLS         make a seeded stream of calls
   second compare STREAM ANSWERS    compare answers to a stream with those given here
-  second fieldlist                 list the dump on standard input
+  second fieldlist [--new]         list the dump on standard input, an old or a new one
   second values                    print the paper's figures as the conditions give them
-  second sample                    make the sample dump
+  second sample [--new]            make the sample dump, the old or the new one
 With --large behind their name, answers, stream and compare go by the larger limits.
 ";
 
@@ -28,9 +28,15 @@ enum Command {
     Answers(Limits),
     Stream(Limits, Made),
     Compare(Limits, Compared),
-    FieldList,
+    FieldList(Kind),
     Values,
-    Sample,
+    Sample(Kind),
+}
+
+/// Which of the two kinds of dump.
+enum Kind {
+    Old,
+    New,
 }
 
 struct Made {
@@ -83,9 +89,11 @@ fn command_of(words: &[&str]) -> Option<Command> {
             }
             _ => None,
         },
-        ["fieldlist"] => Some(Command::FieldList),
+        ["fieldlist"] => Some(Command::FieldList(Kind::Old)),
+        ["fieldlist", "--new"] => Some(Command::FieldList(Kind::New)),
         ["values"] => Some(Command::Values),
-        ["sample"] => Some(Command::Sample),
+        ["sample"] => Some(Command::Sample(Kind::Old)),
+        ["sample", "--new"] => Some(Command::Sample(Kind::New)),
         _ => None,
     }
 }
@@ -110,28 +118,41 @@ fn run(command: Command) -> io::Result<ExitCode> {
             ExitCode::SUCCESS
         }
         Command::Compare(limits, compared) => compare(limits, &compared, &mut printed)?,
-        Command::FieldList => {
-            let list = listing::fieldlist(&dump_from_input()?, &mut Layouts::default());
-            printed.write_all(list.as_bytes())?;
+        Command::FieldList(kind) => {
+            printed.write_all(listed(kind, &dump_from_input()?).as_bytes())?;
             ExitCode::SUCCESS
         }
         Command::Values => {
             printed.write_all(values::figures(&mut Layouts::default()).as_bytes())?;
             ExitCode::SUCCESS
         }
-        Command::Sample => {
-            let dump = sample::sample_dump(&mut Layouts::default()).map_err(|refusal| {
-                io::Error::new(
-                    io::ErrorKind::Other,
-                    format!("refusal {}", refusal.number()),
-                )
-            })?;
-            printed.write_all(&dump)?;
+        Command::Sample(kind) => {
+            printed.write_all(&sample_of(kind)?)?;
             ExitCode::SUCCESS
         }
     };
     printed.flush()?;
     Ok(code)
+}
+
+fn listed(kind: Kind, dump: &[u8]) -> String {
+    let layouts = &mut Layouts::default();
+    match kind {
+        Kind::Old => listing::fieldlist(dump, layouts),
+        Kind::New => listing::fieldlist_new(dump, layouts),
+    }
+}
+
+fn sample_of(kind: Kind) -> io::Result<Vec<u8>> {
+    let layouts = &mut Layouts::default();
+    let sample = match kind {
+        Kind::Old => sample::sample_dump(layouts),
+        Kind::New => sample::sample_new_dump(layouts),
+    };
+    sample.map_err(|refusal| {
+        let told = format!("refusal {}", refusal.number());
+        io::Error::new(io::ErrorKind::Other, told)
+    })
 }
 
 fn compare(limits: Limits, files: &Compared, printed: &mut impl Write) -> io::Result<ExitCode> {

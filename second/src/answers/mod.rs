@@ -1,11 +1,13 @@
 //! The lines that answer a call.
 
+mod new_dump;
+
 use crate::dump::{self, Ending, Record};
 use crate::field;
 use crate::hex;
 use crate::layout::{Layouts, OldShape, Shape};
 use crate::protocol::{self, Call, Limits, Step};
-use crate::refusal::Refusal;
+use crate::refusal::{Refusal, Refused};
 use crate::values;
 use std::io::{self, Read, Write};
 
@@ -32,10 +34,10 @@ pub fn answer_stream(
 pub fn answer(call: &Call, layouts: &mut Layouts) -> String {
     match call {
         Call::Layout { shape, offered } => layout_line(*shape, *offered, layouts),
-        Call::Read { shape, cells } => match field::read(*shape, cells, layouts) {
-            Ok(reading) => line(&["read 0".to_string(), reading_fields(&reading)]),
-            Err(refusal) => line(&["read".to_string(), refused(refusal)]),
-        },
+        Call::Read { shape, cells } => {
+            let outcome = field::read(*shape, cells, layouts);
+            line(&["read".to_string(), outcome_fields(outcome)])
+        }
         Call::Write {
             shape,
             number,
@@ -58,6 +60,7 @@ pub fn answer(call: &Call, layouts: &mut Layouts) -> String {
             output_length,
             text,
         } => stored_line("unhex", *output_length, |output| hex::import(text, output)),
+        Call::NewDump(call) => new_dump::answer(call, layouts),
     }
 }
 
@@ -69,16 +72,16 @@ fn line(fields: &[String]) -> String {
     words.join(" ") + "\n"
 }
 
-fn refused(refusal: Refusal) -> String {
-    refusal.number().to_string()
+fn refused(refusal: impl Into<Refused>) -> String {
+    let Refused { refusal, offset } = refusal.into();
+    match offset {
+        Some(offset) => format!("{} {}", refusal.number(), offset),
+        None => refusal.number().to_string(),
+    }
 }
 
 fn in_hex(bytes: &[u8]) -> String {
     bytes.iter().map(|byte| format!("{:02x}", byte)).collect()
-}
-
-fn reading_fields(reading: &field::Reading) -> String {
-    format!("{} {} {}", reading.generation, reading.number, reading.left)
 }
 
 fn layout_line(shape: Shape, offered: u64, layouts: &mut Layouts) -> String {
@@ -100,10 +103,10 @@ fn write_line(shape: Shape, number: u64, cells: &[u8], layouts: &mut Layouts) ->
 
 /// The line of a call that stores something at the front of a lent output and
 /// answers its length.
-fn stored_line(
+fn stored_line<R: Into<Refused>>(
     operation: &str,
     output_length: u64,
-    call: impl FnOnce(&mut [u8]) -> Result<usize, Refusal>,
+    call: impl FnOnce(&mut [u8]) -> Result<usize, R>,
 ) -> String {
     let mut output = vec![OUTPUT_FILL; output_length as usize];
     let answer = match call(&mut output) {
@@ -116,30 +119,30 @@ fn stored_line(
 fn walk_lines(dump: &[u8], layouts: &mut Layouts) -> String {
     let walk = dump::walk(dump, layouts);
     let mut lines: String = walk.records.iter().map(record_line).collect();
-    lines += &match walk.ending {
-        Ending::TooLong => format!("stop {}\n", Refusal::TooManyBytes.number()),
-        Ending::Malformed { offset } => {
-            format!("stop {} {}\n", Refusal::MalformedRecord.number(), offset)
-        }
-        Ending::EndOfDump => "end\n".to_string(),
-    };
+    lines += &ending_line(walk.ending);
     lines
+}
+
+fn ending_line(ending: Ending) -> String {
+    match ending.refused() {
+        Some(stopped) => line(&["stop".to_string(), refused(stopped)]),
+        None => "end\n".to_string(),
+    }
 }
 
 fn record_line(record: &Record) -> String {
     let OldShape { m, t, v } = record.shape;
-    let given = format!(
-        "record {} {} {} {} {} {}",
-        record.serial,
-        m,
-        t,
-        v,
-        record.start,
-        record.cells.len()
-    );
-    let outcome = match &record.outcome {
-        Ok(reading) => format!("0 {}", reading_fields(reading)),
-        Err(refusal) => refused(*refusal),
-    };
-    line(&[given, outcome])
+    let given = format!("record {} {} {} {}", record.serial, m, t, v);
+    let where_cells_are = format!("{} {}", record.start, record.cells.len());
+    line(&[given, where_cells_are, outcome_fields(record.outcome)])
+}
+
+fn outcome_fields(outcome: Result<field::Reading, Refusal>) -> String {
+    match outcome {
+        Ok(reading) => format!(
+            "0 {} {} {}",
+            reading.generation, reading.number, reading.left
+        ),
+        Err(refusal) => refused(refusal),
+    }
 }
