@@ -144,6 +144,7 @@ fn shape_of(call: &Call) -> Option<Shape> {
         }
         Call::Export { shape, .. } => Some(shape.in_form_0()),
         Call::Walk { .. } | Call::HexExport { .. } | Call::HexImport { .. } => None,
+        Call::NewDump(_) => None,
     }
 }
 
