@@ -31,6 +31,9 @@ fn a_seed_makes_the_same_stream_again_and_another_makes_another() {
 fn calls_are_small_but_for_the_last_ones() {
     let mut lengths: Vec<usize> = calls(1).iter().map(|call| call.to_bytes().len()).collect();
     let large = lengths.split_off(CALLS - 6);
+    // Ten calls on new dumps, as tests/new_streams.rs has them.
+    let of_new_dumps = lengths.split_off(CALLS - 16);
+    assert!(of_new_dumps.iter().all(|length| *length > 30_000));
     // Two imports and two exports of HEX, the longer one first, and two walks.
     assert_eq!(large[1..4], [17 + 65_537, 17 + 65_537, 17 + 65_536]);
     assert_eq!(large[4..], [9 + 65_536, 9 + 65_537]);
@@ -40,11 +43,13 @@ fn calls_are_small_but_for_the_last_ones() {
 }
 
 /// The first words of every line: the operation and its refusal, and for an
-/// accepted read or write the generation too.
+/// accepted read or write the generation too. Those of new dumps are held to their
+/// own test.
 fn kinds(seed: u64) -> HashSet<String> {
     let mut layouts = Layouts::default();
     let mut kinds = HashSet::new();
-    for call in calls(seed) {
+    let is_old = |call: &Call| !matches!(call, Call::NewDump(_));
+    for call in calls(seed).into_iter().filter(is_old) {
         let answer = answers::answer(&call, &mut layouts);
         for line in answer.lines() {
             let words: Vec<&str> = line.split(' ').collect();

@@ -26,8 +26,14 @@ impl Maker {
                 self.chance.bytes(count)
             }
             10..=40 => self.whole_records(4),
-            41..=52 => self.truncated_dump(),
-            53..=64 => self.corrupted_dump(),
+            41..=52 => {
+                let dump = self.some_records();
+                self.truncated(dump)
+            }
+            53..=64 => {
+                let dump = self.some_records();
+                self.corrupted(dump)
+            }
             _ => self.dump_with_an_odd_record(),
         }
     }
@@ -45,7 +51,7 @@ impl Maker {
     }
 
     /// Nine bytes hold no number above the largest serial.
-    fn shape_of_a_record(&mut self) -> OldShape {
+    pub fn shape_of_a_record(&mut self) -> OldShape {
         let shape = self.old_shape();
         OldShape {
             m: shape.m.min(LARGEST_SERIAL),
@@ -54,17 +60,21 @@ impl Maker {
         }
     }
 
-    fn truncated_dump(&mut self) -> Vec<u8> {
+    fn some_records(&mut self) -> Vec<u8> {
         let mut dump = self.whole_records(1);
         dump.extend(self.record());
+        dump
+    }
+
+    pub fn truncated(&mut self, dump: Vec<u8>) -> Vec<u8> {
+        let mut dump = dump;
         let length = self.chance.index(dump.len());
         dump.truncate(length);
         dump
     }
 
-    fn corrupted_dump(&mut self) -> Vec<u8> {
-        let mut dump = self.whole_records(1);
-        dump.extend(self.record());
+    pub fn corrupted(&mut self, dump: Vec<u8>) -> Vec<u8> {
+        let mut dump = dump;
         let place = self.chance.index(dump.len());
         dump[place] = match self.chance.one_in(2) {
             true => dump[place] ^ (1 << self.chance.index(8)),
@@ -90,16 +100,21 @@ impl Maker {
             true => COUNT,
             false => self.chance.index(numbers.len()),
         };
-        let mut record = Vec::new();
-        for (place, number) in numbers.into_iter().enumerate() {
-            if place == odd {
-                record.extend(self.odd_number(number));
-            } else {
-                record.extend(dump::number_bytes(number));
-            }
-        }
+        let mut record = self.numbers_with_an_odd_one(&numbers, odd);
         record.extend(cells);
         record
+    }
+
+    pub fn numbers_with_an_odd_one(&mut self, numbers: &[u64], odd: usize) -> Vec<u8> {
+        let mut bytes = Vec::new();
+        for (place, number) in numbers.iter().enumerate() {
+            if place == odd {
+                bytes.extend(self.odd_number(*number));
+            } else {
+                bytes.extend(dump::number_bytes(*number));
+            }
+        }
+        bytes
     }
 
     /// Longer than needed, longer than allowed, or another number than is due.
@@ -129,16 +144,31 @@ impl Maker {
         if self.chance.one_in(3) {
             dump.extend(self.long_record(length / 2));
         }
-        // A record of 127 cell bytes at most has a header of five bytes.
-        while length - dump.len() > 5 + 127 {
-            let record = self.record();
-            if record.len() + 5 <= length - dump.len() {
+        self.filled_to(length, dump, &[7, 2, 3, 4], Maker::record)
+    }
+
+    /// Goes on with records to exactly this length. The last one has the head that is
+    /// given.
+    pub fn filled_to(
+        &mut self,
+        length: usize,
+        front: Vec<u8>,
+        last_head: &[u8],
+        mut record: impl FnMut(&mut Maker) -> Vec<u8>,
+    ) -> Vec<u8> {
+        let mut dump = front;
+        // With 127 cell bytes at most, n is one byte.
+        let before_cells = last_head.len() + 1;
+        while length - dump.len() > before_cells + 127 {
+            let record = record(self);
+            if record.len() + before_cells <= length - dump.len() {
                 dump.extend(record);
             }
         }
-        let cells = length - dump.len() - 5;
+        let cells = length - dump.len() - before_cells;
         let said = cells + usize::from(self.chance.one_in(4));
-        dump.extend([7, 2, 3, 4, said as u8]);
+        dump.extend(last_head);
+        dump.push(said as u8);
         dump.extend(vec![0; cells]);
         dump
     }

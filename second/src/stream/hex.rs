@@ -34,7 +34,7 @@ impl Maker {
         }
     }
 
-    fn output_length_around(&mut self, due: usize) -> u64 {
+    pub fn output_length_around(&mut self, due: usize) -> u64 {
         let due = due as u64;
         let length = match self.chance.between(1, 16) {
             1..=3 => due.saturating_sub(1),
@@ -148,6 +148,14 @@ impl Maker {
             text.push(if is_lower { lower } else { digit });
         }
         text.extend(if is_returned { "\r\n" } else { "\n" }.bytes());
+    }
+
+    /// How many of them there are.
+    pub fn full_size_hex_calls(&self) -> u64 {
+        match self.limits {
+            Limits::LARGE => 11,
+            _ => 4,
+        }
     }
 
     /// The calls of full size that a stream ends with, from the last one back.

@@ -6,6 +6,8 @@ mod exact_sums;
 mod fields;
 mod hex;
 mod hex_damage;
+mod new_dump_calls;
+mod new_dumps;
 mod shapes;
 
 use crate::cells;
@@ -19,7 +21,8 @@ use std::collections::VecDeque;
 use std::io::{self, Write};
 
 /// In each so many calls, the last two walk a dump of full size and one that is
-/// a byte too long, and those before them are HEX calls of full size.
+/// a byte too long, and those before them are HEX calls of full size, and before
+/// these walks and moves of new dumps.
 const CALLS_TO_FULL_SIZE: u64 = 20_000;
 
 /// Makes the calls of one seed.
@@ -80,22 +83,26 @@ impl Maker {
         match calls_to_follow {
             0 => Some(self.walk_of_length(LONGEST_DUMP + 1)),
             1 => Some(self.walk_of_length(LONGEST_DUMP)),
-            _ => self.full_size_hex_call(calls_to_follow - 2),
+            _ => match (calls_to_follow - 2).checked_sub(self.full_size_hex_calls()) {
+                None => self.full_size_hex_call(calls_to_follow - 2),
+                Some(place) => self.full_size_new_dump_call(place),
+            },
         }
     }
 
     fn make_calls(&mut self) {
-        let call = match self.chance.between(1, 146) {
+        let call = match self.chance.between(1, 204) {
             1..=16 => self.layout_call(),
             17..=42 => self.read_call(),
             43..=64 => self.write_call(),
             65..=69 => return self.make_chain(),
-            70..=75 => return self.make_layouts_around_a_sum(),
-            76..=77 => return self.make_calls_with_a_form_beyond(),
-            78..=95 => self.export_call(),
-            96..=125 => Call::Walk { dump: self.dump() },
-            126..=130 => self.hex_export_call(),
-            _ => self.hex_import_call(),
+            70..=77 => return self.make_layouts_around_a_sum(),
+            78..=79 => return self.make_calls_with_a_form_beyond(),
+            80..=97 => self.export_call(),
+            98..=127 => Call::Walk { dump: self.dump() },
+            128..=132 => self.hex_export_call(),
+            133..=156 => self.hex_import_call(),
+            _ => self.new_dump_call(),
         };
         self.waiting.push_back(call);
     }
