@@ -1,6 +1,7 @@
 /*
  * Answers a stream of calls on standard input, a line for each on standard output, as crates/answers/src/main.rt tells,
- * with larger limits, so that HEX texts of full length fit. With GORVLIME defined the archive answers, else plain C.
+ * with larger limits, so that HEX texts of full length and moved dumps fit. With GORVLIME defined the archive answers,
+ * else plain C.
  */
 #include "chosen.h"
 
@@ -163,6 +164,16 @@ static int is_where_steps_end(const struct lent *dump, const struct gorvlime_wal
     return s.records == 0 && s.refusal == w->refusal && s.offset == w->offset;
 }
 
+static void put_ending(const struct gorvlime_walked *w)
+{
+    uint64_t numbers[] = {w->refusal, w->offset};
+    if (w->refusal == 0)
+        fputs("end", stdout);
+    else
+        put_numbers("stop", numbers, w->refusal == 8 ? 1 : 2);
+    putchar('\n');
+}
+
 /* The walk a few rows at a time, and beside it step by step. */
 static void answer_walk(struct lent *dump)
 {
@@ -180,13 +191,88 @@ static void answer_walk(struct lent *dump)
     same &= w.refusal != 0 || w.ended == 1;
     if (!same || !is_where_steps_end(dump, &w, at))
         puts("walk and steps differ");
-    if (w.refusal == 0) {
-        puts("end");
-    } else {
-        uint64_t numbers[] = {w.refusal, w.offset};
-        put_numbers("stop", numbers, w.refusal == 8 ? 1 : 2);
-        putchar('\n');
-    }
+    put_ending(&w);
+}
+
+static int put_new_record(const struct lent *dump, const uint64_t *row, size_t *at)
+{
+    struct gorvlime_found_new s = CALL(step_new)(dump->bytes, dump->count, *at);
+    uint64_t same[GORVLIME_ROW_NEW] = {
+        s.serial, s.layout, s.shape.form, s.shape.m, s.shape.t, s.shape.v,
+        s.start, s.length, s.refused, s.generation, s.number, s.left,
+    };
+    put_numbers("record", row, row[8] == 0 ? 12 : 9);
+    putchar('\n');
+    *at = s.next;
+    return s.refusal == 0 && s.records == 1 && s.offset == 0 && memcmp(row, same, sizeof same) == 0;
+}
+
+static int is_where_new_steps_end(const struct lent *dump, const struct gorvlime_walked *w, size_t at)
+{
+    struct gorvlime_found_new s = CALL(step_new)(dump->bytes, dump->count, at);
+    return s.records == 0 && s.refusal == w->refusal && s.offset == w->offset;
+}
+
+/* The same for a new dump, from where its list ends. A list that is refused is refused by the walk and by a step too. */
+static void answer_walk_new(struct lent *dump)
+{
+    uint64_t rows[ROWS_AT_ONCE * GORVLIME_ROW_NEW];
+    struct gorvlime_walked w;
+    get_bytes(dump);
+    struct gorvlime_opened opened = CALL(open_new)(dump->bytes, dump->count);
+    size_t at = opened.first, next = opened.first;
+    int same = opened.offset == 0 && (opened.refusal == 0 || opened.layouts + opened.first == 0);
+    do {
+        w = CALL(walk_new)(dump->bytes, dump->count, next, rows, sizeof rows / sizeof rows[0]);
+        next = w.next;
+        for (size_t i = 0; i < w.rows; i++)
+            same &= put_new_record(dump, rows + i * GORVLIME_ROW_NEW, &at);
+        same &= w.next == at;
+    } while (w.refusal == 0 && w.ended == 0 && w.rows > 0);
+    same &= w.refusal != 0 || w.ended == 1;
+    same &= opened.refusal == 0 || (w.refusal == opened.refusal && w.offset + w.rows + w.ended == 0);
+    if (!same || !is_where_new_steps_end(dump, &w, at))
+        puts("walk and steps of the new dump differ");
+    put_ending(&w);
+}
+
+static void put_moved(const char *word, struct gorvlime_moved m, size_t output_count)
+{
+    uint64_t numbers[] = {m.refusal, m.refusal == 7 ? m.offset : m.length};
+    put_numbers(word, numbers, m.refusal == 0 || m.refusal == 7 ? 2 : 1);
+    put_hex(output, output_count);
+    putchar('\n');
+}
+
+static void answer_move_to_new(struct lent *dump)
+{
+    size_t output_count = get_output();
+    get_bytes(dump);
+    put_moved("new", CALL(move_to_new)(dump->bytes, dump->count, output, output_count), output_count);
+}
+
+static void answer_move_to_old(struct lent *dump)
+{
+    size_t output_count = get_output();
+    get_bytes(dump);
+    put_moved("old", CALL(move_to_old)(dump->bytes, dump->count, output, output_count), output_count);
+}
+
+static void answer_export_layout(void)
+{
+    struct gorvlime_shape shape = get_shape();
+    size_t output_count = get_output();
+    put_stored("listed", CALL(export_layout)(shape, output, output_count), output_count);
+}
+
+static void answer_export_record(struct lent *lent)
+{
+    uint64_t serial = get_number(), layout = get_number();
+    struct gorvlime_shape shape = get_shape();
+    size_t output_count = get_output();
+    get_bytes(lent);
+    struct gorvlime_stored e = CALL(export_record)(serial, layout, shape, lent->bytes, lent->count, output, output_count);
+    put_stored("export", e, output_count);
 }
 
 int main(void)
@@ -201,6 +287,11 @@ int main(void)
         case 5: answer_walk(&lent); break;
         case 6: answer_hex_export(&lent); break;
         case 7: answer_hex_import(&lent); break;
+        case 8: answer_walk_new(&lent); break;
+        case 9: answer_move_to_new(&lent); break;
+        case 10: answer_move_to_old(&lent); break;
+        case 11: answer_export_layout(); break;
+        case 12: answer_export_record(&lent); break;
         default: give_up("no such call");
         }
     }

@@ -1,28 +1,10 @@
 /* The dump calls of gorvlime.h as one would write them in C. */
 #include "plain_field.h"
+#include "plain_records.h"
 
 #include <string.h>
 
-enum { MOST_DUMP = 65536, LONGEST_NUMBER = 9, NUMBERS_OF_A_RECORD = 5 };
-
-static const uint64_t MOST_SERIAL = UINT64_MAX >> 1;
-
-struct record {
-    uint64_t serial, length;
-    struct gorvlime_shape shape;
-    size_t start;
-};
-
-static size_t put_number(uint8_t *out, uint64_t number)
-{
-    size_t length = 0;
-    while (number >= 0x80) {
-        out[length++] = number | 0x80;
-        number >>= 7;
-    }
-    out[length++] = number;
-    return length;
-}
+enum { NUMBERS_OF_A_RECORD = 5 };
 
 struct gorvlime_stored plain_export(uint64_t serial, uint64_t m, uint64_t t, uint64_t v, const uint8_t *cells,
                                       size_t cells_count, uint8_t *out, size_t out_count)
@@ -45,33 +27,6 @@ struct gorvlime_stored plain_export(uint64_t serial, uint64_t m, uint64_t t, uin
     memcpy(out, head, length);
     memcpy(out + length, cells, cells_count);
     return (struct gorvlime_stored){.length = length + cells_count};
-}
-
-/* Reads the number at *at and moves *at behind it. False: cut off, over nine bytes or not in shortest form. */
-static int get_number(const uint8_t *dump, size_t count, size_t *at, uint64_t *number)
-{
-    uint64_t value = 0;
-    for (unsigned shift = 0; shift < 7 * LONGEST_NUMBER && *at < count; shift += 7) {
-        uint8_t byte = dump[(*at)++];
-        value |= (uint64_t)(byte & 0x7f) << shift;
-        if (byte < 0x80) {
-            *number = value;
-            return byte != 0 || shift == 0;
-        }
-    }
-    return 0;
-}
-
-/* The record at an offset below the dump's end, which is of form 0. False: malformed. */
-static int get_record(const uint8_t *dump, size_t count, size_t at, struct record *r)
-{
-    if (!get_number(dump, count, &at, &r->serial) || !get_number(dump, count, &at, &r->shape.m)
-        || !get_number(dump, count, &at, &r->shape.t) || !get_number(dump, count, &at, &r->shape.v)
-        || !get_number(dump, count, &at, &r->length))
-        return 0;
-    r->shape.form = 0;
-    r->start = at;
-    return r->length <= count - at;
 }
 
 struct gorvlime_found plain_step(const uint8_t *dump, size_t dump_count, size_t at)

@@ -12,14 +12,17 @@
  *
  * Ask gorvlime_layout once how large the field is, keep that many bytes of cells, all zeros at first, and hand them to
  * gorvlime_write and gorvlime_read. gorvlime_export makes a record of a field, records one after the other are a dump, and
- * gorvlime_step and gorvlime_walk list a dump. examples/board.c shows all of the board's side on one page.
+ * gorvlime_step and gorvlime_walk list a dump. A new dump says each layout once, in front, and holds fields of every form:
+ * gorvlime_export_layout and gorvlime_export_record make it, gorvlime_open_new, gorvlime_step_new and gorvlime_walk_new
+ * list it, gorvlime_move_to_new and gorvlime_move_to_old turn one kind of dump into the other. examples/board.c shows all
+ * of the board's side on one page.
  * gorvlime_hex_export and gorvlime_hex_import turn bytes into Intel HEX and back, for the bench that programs new
  * boards; examples/bench.c does so with a file.
  *
  * For every call:
  * - `refusal` is 0 when the call was accepted. When it is not, all other numbers of the answer are 0 and nothing was stored
- *   in lent memory. Refusal 7 alone tells more: the offset of the malformed record, and a walk has filled and counts the
- *   rows of the records before it.
+ *   in lent memory. Refusal 7 alone tells more: the offset of the malformed record, or 0 for the layout list of a new dump,
+ *   and a walk has filled and counts the rows of the records before it.
  * - Lend no null pointer, not even with a count of 0, and no output that overlaps what is read. Not a byte more is read or
  *   stored than is lent.
  * - There is no state, no heap and no lock: calls may run at once on different memory.
@@ -40,27 +43,33 @@ extern "C" {
 /*
  * Why a call was refused. The tests are made in the order of this list, and the first that holds is the answer. A HEX
  * text is tested line by line: 23, 20, 21, 22, 24 at one line, the same at the next, and 9 when all lines have passed.
+ * A move tests 8 a second time, of what it would store: right before 9.
  */
 enum gorvlime_refusal {
     GORVLIME_ACCEPTED = 0,      /* from                  when                                               */
-    GORVLIME_SERIAL = 10,       /* export                the serial is above 2^63 - 1                       */
-    GORVLIME_BOUNDS = 1,        /* all with m, t, v      the form, m, t, v or g is outside its bounds       */
+    GORVLIME_SERIAL = 10,       /* exports of a record   the serial is above 2^63 - 1                       */
+    GORVLIME_BOUNDS = 1,        /* all with m, t, v      the form, m, t, v or g is outside its bounds, or   */
+                                /*                       the layout number is above 63                      */
     GORVLIME_NO_ROOM = 2,       /* all with m, t, v      the field needs more than g groups                 */
-    GORVLIME_CELLS = 3,         /* read, write, export   another count of bytes, or a 1 behind the last wit */
+    GORVLIME_CELLS = 3,         /* read, write, exports  another count of bytes, or a 1 behind the last wit */
+                                /* of a record                                                              */
     GORVLIME_BLANK = 11,        /* read                  the field is of form 1 and nothing is written yet  */
     GORVLIME_NUMBER = 6,        /* write                 the number is v or more                            */
     GORVLIME_NO_READING = 4,    /* read, write           the cells have no reading: no writes leave them so */
     GORVLIME_SPENT = 5,         /* write                 all t generations are written                      */
-    GORVLIME_TOO_LONG = 8,      /* step, walk            the dump has more than 65,536 bytes                */
+    GORVLIME_TOO_LONG = 8,      /* all with a dump       the dump has more than 65,536 bytes                */
                                 /* HEX export            more than 65,536 bytes                             */
-    GORVLIME_MALFORMED = 7,     /* step, walk            no whole record stands at the offset               */
+    GORVLIME_MALFORMED = 7,     /* all with a dump       no whole record stands at the offset, or no whole  */
+                                /*                       layout list in front of a new dump                 */
+    GORVLIME_FORM = 12,         /* move to old           a listed form but 0: the old dump cannot hold it   */
+    GORVLIME_LAYOUTS = 13,      /* move to new           the records have more than 64 layouts              */
     GORVLIME_NO_END = 23,       /* HEX import            the text is over and no end line was in it         */
     GORVLIME_LINE = 20,         /* HEX import            no line of the right shape, or a type 01 with data */
                                 /*                       or an address                                      */
     GORVLIME_SUM = 21,          /* HEX import            the sum of the line is wrong                       */
     GORVLIME_ADDRESS = 22,      /* HEX import            data with a gap, an overlap or past address FFFF   */
     GORVLIME_TYPE = 24,         /* HEX import            a type but 00 and 01, or text behind the end line  */
-    GORVLIME_OUTPUT = 9         /* export, HEX calls     what is to be stored does not fit into the output  */
+    GORVLIME_OUTPUT = 9         /* all with an output    what is to be stored does not fit into the output  */
 };
 
 /*
@@ -117,7 +126,8 @@ struct gorvlime_writing gorvlime_write(struct gorvlime_shape shape, uint8_t *cel
  *
  * Takes a serial of your choice (0 to 2^63 - 1), the field's m, t, v and cells, and an output. Stores the record at the front
  * of the output, leaves the bytes behind it as they are, and answers the record's length, at most 85 bytes. Cells that have
- * no reading are exported too. A record has no place for the form and is read as form 0: export no field of form 1.
+ * no reading are exported too. A record has no place for the form and is read as form 0: a field of form 1 goes into a new
+ * dump.
  * A record is serial, m, t, v, the count of cell bytes, then these bytes. Each number is groups of seven bits, lowest first,
  * the top bit set on all but the last.
  * Refusals: 10, 1, 2, 3, 9.
@@ -173,6 +183,109 @@ struct gorvlime_found gorvlime_step(const uint8_t *dump, size_t dump_count, size
 struct gorvlime_walked { uint64_t refusal, offset, rows, next, ended; };
 
 struct gorvlime_walked gorvlime_walk(const uint8_t *dump, size_t dump_count, size_t at, uint64_t *rows, size_t rows_count);
+
+/*
+ * New dumps.
+ *
+ * A new dump is the count of its layouts, 0 to 64, then form, m, t, v of each, then records of serial, layout number, the
+ * count of cell bytes and these bytes; all numbers are groups of seven bits as in an old dump. The layout number is the
+ * place in the list, from 0. Nothing in the bytes tells the two kinds of dump apart: who stores a dump notes its kind.
+ *
+ * A list whose count is above 64 or in which a number is malformed is refused with 7 at offset 0. A listed layout that is
+ * out of bounds, or of a form that there is not, is whole all the same: each record that uses it is refused with 1 of its
+ * own. A record whose layout number is not below the count is malformed.
+ */
+
+/*
+ * One layout for the list of a new dump.
+ *
+ * Takes a shape and an output, at whose front it stores form, m, t, v, at most 12 bytes. Answers how many, and leaves the
+ * bytes behind them as they are.
+ * The board puts the count of layouts before the first one, which is one byte. Refusals: 1, 2, 9.
+ */
+struct gorvlime_stored gorvlime_export_layout(struct gorvlime_shape shape, uint8_t *out, size_t out_count);
+
+/*
+ * One record of a new dump.
+ *
+ * Takes a serial of your choice (0 to 2^63 - 1), the number of the field's layout in the list (0 to 63), the field's shape,
+ * which is that layout, its cells and an output. Stores the record at the front of the output, leaves the bytes behind it
+ * as they are, and answers its length, at most 75 bytes. The list is not lent, so nobody tests that the shape is the
+ * one that is listed. Cells that have no reading, blank ones of form 1 too, are exported as any others.
+ * Refusals: 10, 1, 2, 3, 9.
+ */
+struct gorvlime_stored gorvlime_export_record(uint64_t serial, uint64_t layout, struct gorvlime_shape shape,
+                                              const uint8_t *cells, size_t cells_count, uint8_t *out, size_t out_count);
+
+/*
+ * The layout list of a new dump.
+ *
+ * Answers how many layouts are listed and the offset of the first record, where a walk starts; with no record it is the
+ * dump's end. Refusals: 8, 7 with offset 0.
+ */
+struct gorvlime_opened { uint64_t refusal, offset, layouts, first; };
+
+struct gorvlime_opened gorvlime_open_new(const uint8_t *dump, size_t dump_count);
+
+/*
+ * One record of a new dump.
+ *
+ * Takes a new dump of at most 65,536 bytes and the offset of a record in it: the `first` of gorvlime_open_new, then the
+ * `next` of the step before. A record is read wherever the offset points, inside the list too; at or past the dump's end
+ * is the end.
+ *
+ *     a record    refusal 0, records 1; its serial, the number of its layout and the listed shape; its cells are the
+ *                 dump's bytes start to start + length - 1; next, where the next step starts; then what gorvlime_read says
+ *                 of the cells: `refused` is 0 and generation, number, left follow, or it is the record's own refusal 1 to
+ *                 4 or 11 and they are 0
+ *     the end     refusal 0, records 0
+ *     refused     refusal 8; or 7 with offset 0 for the list, or with the offset of the record's first byte; records 0
+ *
+ * What is not named for a case is 0 in it. Each step passes over the list again and works out the layout: for more than a
+ * few records take gorvlime_walk_new.
+ */
+struct gorvlime_found_new {
+    uint64_t refusal, offset, records, serial, layout;
+    struct gorvlime_shape shape;
+    uint64_t start, length, next, refused, generation, number, left;
+};
+
+struct gorvlime_found_new gorvlime_step_new(const uint8_t *dump, size_t dump_count, size_t at);
+
+/*
+ * Many records of a new dump: the same as steps from `at` on, and quicker where records repeat a layout.
+ *
+ * All is as in gorvlime_walk, but that a row has GORVLIME_ROW_NEW numbers, in the order serial, layout, form, m, t, v, start,
+ * length, refused, generation, number, left; that `at` is the `first` of gorvlime_open_new to begin with; and that a
+ * broken list is refused with 7 whatever the room, with all else 0. It passes over the list once.
+ */
+#define GORVLIME_ROW_NEW 12
+
+struct gorvlime_walked gorvlime_walk_new(const uint8_t *dump, size_t dump_count, size_t at, uint64_t *rows,
+                                         size_t rows_count);
+
+/*
+ * An old dump as a new one.
+ *
+ * Takes an old dump and an output. Stores the new dump at the front of the output, leaves the bytes behind it as they are,
+ * and answers its length. The layouts are of form 0, in the order of their first use. What the cells say and whether m, t, v
+ * are in bounds does not matter: every record moves. The new dump is at most 129 bytes longer, and shorter where records
+ * repeat their layout; 65,536 bytes of output are always enough.
+ * Moved back, it is the old dump again, byte for byte.
+ * Refusals: 8, 7, 13, 8 for a new dump of more than 65,536 bytes, 9.
+ */
+struct gorvlime_moved { uint64_t refusal, offset, length; };
+
+struct gorvlime_moved gorvlime_move_to_new(const uint8_t *dump, size_t dump_count, uint8_t *out, size_t out_count);
+
+/*
+ * A new dump as an old one.
+ *
+ * The same the other way. Every listed layout has to be of form 0, used or not. The list itself is not kept: moved to new
+ * again, the dump is the same where its layouts are all used, different and in the order of their first use.
+ * Refusals: 8, 7, 12, 8 for an old dump of more than 65,536 bytes, 9.
+ */
+struct gorvlime_moved gorvlime_move_to_old(const uint8_t *dump, size_t dump_count, uint8_t *out, size_t out_count);
 
 /*
  * Bytes as an Intel HEX text.

@@ -1,0 +1,302 @@
+/* The calls of gorvlime.h on new dumps as one would write them in C. */
+#include "plain_field.h"
+#include "plain_records.h"
+
+#include <string.h>
+
+enum { MOST_LAYOUTS = 64, NUMBERS_BEFORE_CELLS = 3, NUMBERS_OF_A_LAYOUT = 4 };
+
+/* The layouts of a dump in their order, and the offset behind them in a new one. */
+struct list {
+    size_t count, end;
+    struct gorvlime_shape shapes[MOST_LAYOUTS];
+};
+
+struct new_record {
+    uint64_t serial, layout, length;
+    size_t start;
+};
+
+static size_t put_layout(uint8_t *out, const struct gorvlime_shape *shape)
+{
+    size_t length = put_number(out, shape->form);
+    length += put_number(out + length, shape->m);
+    length += put_number(out + length, shape->t);
+    return length + put_number(out + length, shape->v);
+}
+
+struct gorvlime_stored plain_export_layout(struct gorvlime_shape shape, uint8_t *out, size_t out_count)
+{
+    uint8_t listed[NUMBERS_OF_A_LAYOUT * LONGEST_NUMBER];
+    struct field f;
+    plain_lay_out(&f, shape);
+    if (f.refusal != GORVLIME_ACCEPTED)
+        return (struct gorvlime_stored){.refusal = f.refusal};
+    size_t length = put_layout(listed, &shape);
+    if (out_count < length)
+        return (struct gorvlime_stored){.refusal = GORVLIME_OUTPUT};
+    memcpy(out, listed, length);
+    return (struct gorvlime_stored){.length = length};
+}
+
+struct gorvlime_stored plain_export_record(uint64_t serial, uint64_t layout, struct gorvlime_shape shape,
+                                           const uint8_t *cells, size_t cells_count, uint8_t *out, size_t out_count)
+{
+    uint8_t head[NUMBERS_BEFORE_CELLS * LONGEST_NUMBER];
+    struct field f;
+    if (serial > MOST_SERIAL)
+        return (struct gorvlime_stored){.refusal = GORVLIME_SERIAL};
+    if (layout >= MOST_LAYOUTS)
+        return (struct gorvlime_stored){.refusal = GORVLIME_BOUNDS};
+    plain_lay_out(&f, shape);
+    uint64_t refusal = plain_misfit(&f, cells, cells_count);
+    if (refusal != GORVLIME_ACCEPTED)
+        return (struct gorvlime_stored){.refusal = refusal};
+    size_t length = put_number(head, serial);
+    length += put_number(head + length, layout);
+    length += put_number(head + length, cells_count);
+    if (out_count < length + cells_count)
+        return (struct gorvlime_stored){.refusal = GORVLIME_OUTPUT};
+    memcpy(out, head, length);
+    memcpy(out + length, cells, cells_count);
+    return (struct gorvlime_stored){.length = length + cells_count};
+}
+
+static int get_layout(const uint8_t *dump, size_t count, size_t *at, struct gorvlime_shape *shape)
+{
+    return get_number(dump, count, at, &shape->form) && get_number(dump, count, at, &shape->m)
+        && get_number(dump, count, at, &shape->t) && get_number(dump, count, at, &shape->v);
+}
+
+/* 0, 8 for a dump that is too long, or 7 for a broken list. */
+static uint64_t get_list(const uint8_t *dump, size_t count, struct list *l)
+{
+    uint64_t layouts;
+    l->end = 0;
+    if (count > MOST_DUMP)
+        return GORVLIME_TOO_LONG;
+    if (!get_number(dump, count, &l->end, &layouts) || layouts > MOST_LAYOUTS)
+        return GORVLIME_MALFORMED;
+    for (l->count = 0; l->count < layouts; l->count++)
+        if (!get_layout(dump, count, &l->end, &l->shapes[l->count]))
+            return GORVLIME_MALFORMED;
+    return GORVLIME_ACCEPTED;
+}
+
+/* The record at an offset below the dump's end. False: malformed. */
+static int get_new_record(const uint8_t *dump, size_t count, size_t at, size_t layouts, struct new_record *r)
+{
+    if (!get_number(dump, count, &at, &r->serial) || !get_number(dump, count, &at, &r->layout) || r->layout >= layouts
+        || !get_number(dump, count, &at, &r->length))
+        return 0;
+    r->start = at;
+    return r->length <= count - at;
+}
+
+struct gorvlime_opened plain_open_new(const uint8_t *dump, size_t dump_count)
+{
+    struct list l;
+    uint64_t refusal = get_list(dump, dump_count, &l);
+    if (refusal != GORVLIME_ACCEPTED)
+        return (struct gorvlime_opened){.refusal = refusal};
+    return (struct gorvlime_opened){.layouts = l.count, .first = l.end};
+}
+
+struct gorvlime_found_new plain_step_new(const uint8_t *dump, size_t dump_count, size_t at)
+{
+    struct gorvlime_found_new found = {0};
+    struct new_record r;
+    struct list l;
+    struct field f;
+    found.refusal = get_list(dump, dump_count, &l);
+    if (found.refusal != GORVLIME_ACCEPTED || at >= dump_count)
+        return found;
+    if (!get_new_record(dump, dump_count, at, l.count, &r)) {
+        found.refusal = GORVLIME_MALFORMED;
+        found.offset = at;
+        return found;
+    }
+    plain_lay_out(&f, l.shapes[r.layout]);
+    struct gorvlime_reading reading = plain_read_cells(&f, dump + r.start, r.length);
+    return (struct gorvlime_found_new){
+        .records = 1, .serial = r.serial, .layout = r.layout, .shape = l.shapes[r.layout],
+        .start = r.start, .length = r.length, .next = r.start + r.length,
+        .refused = reading.refusal, .generation = reading.generation, .number = reading.number, .left = reading.left,
+    };
+}
+
+static void put_row(uint64_t *row, const struct new_record *r, const struct gorvlime_shape *shape,
+                    const struct gorvlime_reading *reading)
+{
+    row[0] = r->serial;
+    row[1] = r->layout;
+    row[2] = shape->form;
+    row[3] = shape->m;
+    row[4] = shape->t;
+    row[5] = shape->v;
+    row[6] = r->start;
+    row[7] = r->length;
+    row[8] = reading->refusal;
+    row[9] = reading->generation;
+    row[10] = reading->number;
+    row[11] = reading->left;
+}
+
+struct gorvlime_walked plain_walk_new(const uint8_t *dump, size_t dump_count, size_t at, uint64_t *rows,
+                                      size_t rows_count)
+{
+    struct gorvlime_walked walked = {.next = at};
+    uint64_t laid_out = MOST_LAYOUTS;   /* whose field f is: at first no one's */
+    struct new_record r;
+    struct list l;
+    struct field f;
+    uint64_t refusal = get_list(dump, dump_count, &l);
+    if (refusal != GORVLIME_ACCEPTED)
+        return (struct gorvlime_walked){.refusal = refusal};
+    for (; rows_count >= GORVLIME_ROW_NEW; rows += GORVLIME_ROW_NEW, rows_count -= GORVLIME_ROW_NEW) {
+        if (walked.next >= dump_count) {
+            walked.ended = 1;
+            break;
+        }
+        if (!get_new_record(dump, dump_count, walked.next, l.count, &r)) {
+            walked.refusal = GORVLIME_MALFORMED;
+            walked.offset = walked.next;
+            break;
+        }
+        if (r.layout != laid_out)
+            plain_lay_out(&f, l.shapes[r.layout]);
+        laid_out = r.layout;
+        struct gorvlime_reading reading = plain_read_cells(&f, dump + r.start, r.length);
+        put_row(rows, &r, &l.shapes[r.layout], &reading);
+        walked.rows++;
+        walked.next = r.start + r.length;
+    }
+    return walked;
+}
+
+static size_t number_length(uint64_t number)
+{
+    size_t length = 1;
+    for (; number >= 0x80; number >>= 7)
+        length++;
+    return length;
+}
+
+static size_t shape_length(const struct gorvlime_shape *shape)
+{
+    return number_length(shape->m) + number_length(shape->t) + number_length(shape->v);
+}
+
+/* The place of an old record's layout in the list, at whose end it is put if it is not there; 64 where that is full. */
+static size_t layout_of(struct list *l, const struct gorvlime_shape *shape)
+{
+    size_t i = 0;
+    while (i < l->count && (l->shapes[i].m != shape->m || l->shapes[i].t != shape->t || l->shapes[i].v != shape->v))
+        i++;
+    if (i == l->count && i < MOST_LAYOUTS)
+        l->shapes[l->count++] = *shape;
+    return i;
+}
+
+static struct gorvlime_moved refuse_move(uint64_t refusal, size_t offset)
+{
+    return (struct gorvlime_moved){.refusal = refusal, .offset = offset};
+}
+
+/* Of a dump that has passed the other tests. */
+static struct gorvlime_moved test_room(size_t length, size_t out_count)
+{
+    if (length > MOST_DUMP)
+        return refuse_move(GORVLIME_TOO_LONG, 0);
+    if (length > out_count)
+        return refuse_move(GORVLIME_OUTPUT, 0);
+    return (struct gorvlime_moved){.length = length};
+}
+
+/* Lists the layouts of an old dump and answers what the move will. */
+static struct gorvlime_moved test_old(const uint8_t *dump, size_t dump_count, size_t out_count, struct list *l)
+{
+    size_t length = 1;   /* the count of layouts */
+    int too_many = 0;
+    struct record r;
+    l->count = 0;
+    if (dump_count > MOST_DUMP)
+        return refuse_move(GORVLIME_TOO_LONG, 0);
+    for (size_t at = 0; at < dump_count; at = r.start + r.length) {
+        if (!get_record(dump, dump_count, at, &r))
+            return refuse_move(GORVLIME_MALFORMED, at);
+        too_many |= layout_of(l, &r.shape) == MOST_LAYOUTS;
+        length += number_length(r.serial) + 1 + number_length(r.length) + r.length;
+    }
+    if (too_many)
+        return refuse_move(GORVLIME_LAYOUTS, 0);
+    for (size_t i = 0; i < l->count; i++)
+        length += 1 + shape_length(&l->shapes[i]);
+    return test_room(length, out_count);
+}
+
+struct gorvlime_moved plain_move_to_new(const uint8_t *dump, size_t dump_count, uint8_t *out, size_t out_count)
+{
+    struct list l;
+    struct record r;
+    struct gorvlime_moved moved = test_old(dump, dump_count, out_count, &l);
+    if (moved.refusal != GORVLIME_ACCEPTED)
+        return moved;
+    *out++ = l.count;
+    for (size_t i = 0; i < l.count; i++)
+        out += put_layout(out, &l.shapes[i]);
+    for (size_t at = 0; at < dump_count; at = r.start + r.length) {
+        get_record(dump, dump_count, at, &r);
+        out += put_number(out, r.serial);
+        *out++ = layout_of(&l, &r.shape);
+        out += put_number(out, r.length);
+        memcpy(out, dump + r.start, r.length);
+        out += r.length;
+    }
+    return moved;
+}
+
+static int has_another_form(const struct list *l)
+{
+    size_t i = 0;
+    while (i < l->count && l->shapes[i].form == 0)
+        i++;
+    return i < l->count;
+}
+
+static struct gorvlime_moved test_new(const uint8_t *dump, size_t dump_count, size_t out_count, struct list *l)
+{
+    size_t length = 0;
+    struct new_record r;
+    uint64_t refusal = get_list(dump, dump_count, l);
+    if (refusal != GORVLIME_ACCEPTED)
+        return refuse_move(refusal, 0);
+    for (size_t at = l->end; at < dump_count; at = r.start + r.length) {
+        if (!get_new_record(dump, dump_count, at, l->count, &r))
+            return refuse_move(GORVLIME_MALFORMED, at);
+        length += number_length(r.serial) + shape_length(&l->shapes[r.layout]) + number_length(r.length) + r.length;
+    }
+    if (has_another_form(l))
+        return refuse_move(GORVLIME_FORM, 0);
+    return test_room(length, out_count);
+}
+
+struct gorvlime_moved plain_move_to_old(const uint8_t *dump, size_t dump_count, uint8_t *out, size_t out_count)
+{
+    struct list l;
+    struct new_record r;
+    struct gorvlime_moved moved = test_new(dump, dump_count, out_count, &l);
+    if (moved.refusal != GORVLIME_ACCEPTED)
+        return moved;
+    for (size_t at = l.end; at < dump_count; at = r.start + r.length) {
+        get_new_record(dump, dump_count, at, l.count, &r);
+        out += put_number(out, r.serial);
+        out += put_number(out, l.shapes[r.layout].m);
+        out += put_number(out, l.shapes[r.layout].t);
+        out += put_number(out, l.shapes[r.layout].v);
+        out += put_number(out, r.length);
+        memcpy(out, dump + r.start, r.length);
+        out += r.length;
+    }
+    return moved;
+}
