@@ -1,8 +1,10 @@
 /*
  * What the archive costs beside plain C: all calls on the drives' field, m 2, t 10, v 2^56, reads of it in form 1, reads
- * and writes on the largest fields and on a small one, and a dump of full size to HEX and back.
+ * and writes on the largest fields and on a small one, a dump of full size to HEX and back, a new dump of full size, and
+ * dumps of two sizes moved both ways.
  *
- *     bench list               the cases, a line for each: calls in one run of it, and its name
+ *     bench list               the cases, a line for each: calls in one run of it, records and bytes of the dump that it
+ *                              goes through (0 for none), and its name
  *     bench same               compares the answers of both in every case
  *     bench count CASE WHO     one run of a case by p (plain C), a (the archive) or n (nobody), to count its instructions
  *     bench time ROUNDS        for each round and case: the case, and nanoseconds of a run by plain C and by the archive
@@ -20,8 +22,12 @@
 
 enum {
     MOST_GENERATIONS = 16, MOST_CELLS = 64, MOST_RECORD = 85, CHAINS = 8,
-    /* 23 of the records have a serial of 3 bytes, and the others one of 2, which fills the dump to its last byte. */
-    DUMP = 65536, RECORDS = 1337, LONG_SERIALS = 23, ROWS = (RECORDS + 1) * GORVLIME_ROW,
+    DUMP = 65536,
+    /* So many records have a serial of 3 bytes, and the others one of 2, which fills a dump to its last byte. */
+    OLD_RECORDS = 1337, OLD_LONG_SERIALS = 23, NEW_RECORDS = 1680, NEW_LONG_SERIALS = 3,
+    /* The first records of the old dump, in half of its bytes. */
+    HALF_RECORDS = 668,
+    ROWS = (NEW_RECORDS + 1) * GORVLIME_ROW_NEW,
     TEXT = 180236,   /* characters of 65,536 bytes in HEX */
 };
 
@@ -31,16 +37,21 @@ struct calls {
     struct gorvlime_writing (*write)(struct gorvlime_shape, uint8_t *, size_t, uint64_t);
     struct gorvlime_stored (*export)(uint64_t, uint64_t, uint64_t, uint64_t, const uint8_t *, size_t, uint8_t *, size_t);
     struct gorvlime_walked (*walk)(const uint8_t *, size_t, size_t, uint64_t *, size_t);
+    struct gorvlime_walked (*walk_new)(const uint8_t *, size_t, size_t, uint64_t *, size_t);
+    struct gorvlime_moved (*move_to_new)(const uint8_t *, size_t, uint8_t *, size_t);
+    struct gorvlime_moved (*move_to_old)(const uint8_t *, size_t, uint8_t *, size_t);
     struct gorvlime_stored (*hex_export)(const uint8_t *, size_t, uint8_t *, size_t);
     struct gorvlime_stored (*hex_import)(const uint8_t *, size_t, uint8_t *, size_t);
 };
 
 static const struct calls plain = {
     plain_layout, plain_read, plain_write, plain_export, plain_walk,
+    plain_walk_new, plain_move_to_new, plain_move_to_old,
     plain_hex_export, plain_hex_import,
 };
 static const struct calls archive = {
     gorvlime_layout, gorvlime_read, gorvlime_write, gorvlime_export, gorvlime_walk,
+    gorvlime_walk_new, gorvlime_move_to_new, gorvlime_move_to_old,
     gorvlime_hex_export, gorvlime_hex_import,
 };
 
@@ -59,97 +70,123 @@ static struct sample widest_4 = {.shape = {.m = 4, .t = 16, .v = RANGE}, .cells 
 static struct sample new_drives = {.shape = {.form = 1, .m = 2, .t = 10, .v = RANGE}, .cells = 35};
 static struct sample small = {.shape = {.m = 2, .t = 3, .v = 4}, .cells = 1};
 
-static uint8_t dump[DUMP];   /* of the drives' fields */
+/* Of the drives' fields. A walk starts at `first`. */
+struct dump {
+    unsigned records;
+    size_t first, count;
+    uint8_t bytes[DUMP];
+};
+
+static struct dump old_dump, half_dump, new_dump, moved_dump, moved_half;
 static uint64_t rows[ROWS];
-static uint8_t text[TEXT];   /* the dump in HEX */
-static uint8_t out[TEXT];    /* of a HEX call */
+static uint8_t text[TEXT];   /* the old dump in HEX */
+static uint8_t out[TEXT];    /* of a HEX call or a move */
 static uint64_t answers;     /* all answers of a run, folded into one number */
+
+struct task {
+    unsigned calls, times;   /* calls in a run; runs that are timed together */
+    void (*run)(const struct calls *, const struct task *);
+    struct sample *sample;
+    unsigned generation;     /* which one, or how many */
+    struct dump *dump;
+    const char *name;
+};
 
 static void fold(uint64_t answer)
 {
     answers = answers * 31 + answer;
 }
 
-static void run_layout(const struct calls *c, const struct sample *s, unsigned generation)
-{
-    (void)generation;
-    for (unsigned i = 0; i < CHAINS; i++)
-        fold(c->layout(s->shape, 256 - i).h[0]);
-}
-
-static void run_reads(const struct calls *c, const struct sample *s, unsigned generation)
+static void run_layout(const struct calls *c, const struct task *t)
 {
     for (unsigned i = 0; i < CHAINS; i++)
-        fold(c->read(s->shape, s->written[i][generation - 1], s->cells).number);
+        fold(c->layout(t->sample->shape, 256 - i).h[0]);
 }
 
-static void run_writes(const struct calls *c, const struct sample *s, unsigned generations)
+static void run_reads(const struct calls *c, const struct task *t)
 {
+    const struct sample *s = t->sample;
+    for (unsigned i = 0; i < CHAINS; i++)
+        fold(c->read(s->shape, s->written[i][t->generation - 1], s->cells).number);
+}
+
+static void run_writes(const struct calls *c, const struct task *t)
+{
+    const struct sample *s = t->sample;
     for (unsigned i = 0; i < CHAINS; i++) {
         uint8_t cells[MOST_CELLS] = {0};
-        for (unsigned j = 0; j < generations; j++)
+        for (unsigned j = 0; j < t->generation; j++)
             fold(c->write(s->shape, cells, s->cells, s->numbers[i][j]).turned);
         fold(cells[i]);
     }
 }
 
-static void run_export(const struct calls *c, const struct sample *s, unsigned generation)
+static void run_export(const struct calls *c, const struct task *t)
 {
-    uint8_t out[MOST_RECORD];
+    uint8_t record[MOST_RECORD];
+    const struct sample *s = t->sample;
     struct gorvlime_shape f = s->shape;
     for (unsigned i = 0; i < CHAINS; i++) {
-        fold(c->export(300 + i, f.m, f.t, f.v, s->written[i][generation - 1], s->cells, out, sizeof out).length);
-        fold(out[20]);
+        const uint8_t *cells = s->written[i][t->generation - 1];
+        fold(c->export(300 + i, f.m, f.t, f.v, cells, s->cells, record, sizeof record).length);
+        fold(record[20]);
     }
 }
 
-static void run_walk(const struct calls *c, const struct sample *s, unsigned generation)
+static void run_walk(const struct calls *c, const struct task *t)
 {
-    (void)s;
-    (void)generation;
-    fold(c->walk(dump, DUMP, 0, rows, ROWS).rows);
-    fold(rows[8]);
+    fold(c->walk(t->dump->bytes, t->dump->count, t->dump->first, rows, ROWS).rows);
 }
 
-static void run_hex_export(const struct calls *c, const struct sample *s, unsigned generation)
+static void run_walk_new(const struct calls *c, const struct task *t)
 {
-    (void)s;
-    (void)generation;
-    fold(c->hex_export(dump, DUMP, out, TEXT).length);
+    fold(c->walk_new(t->dump->bytes, t->dump->count, t->dump->first, rows, ROWS).rows);
 }
 
-static void run_hex_import(const struct calls *c, const struct sample *s, unsigned generation)
+static void run_move_to_new(const struct calls *c, const struct task *t)
 {
-    (void)s;
-    (void)generation;
-    fold(c->hex_import(text, TEXT, out, DUMP).length);
+    fold(c->move_to_new(t->dump->bytes, t->dump->count, out, DUMP).length);
 }
 
-static const struct {
-    unsigned calls, times;   /* calls in a run; runs that are timed together */
-    void (*run)(const struct calls *, const struct sample *, unsigned);
-    struct sample *sample;
-    unsigned generation;     /* which one, or how many */
-    const char *name;
-} cases[] = {
-    {CHAINS, 20, run_layout, &drives, 1, "layout"},
-    {CHAINS, 10, run_reads, &drives, 1, "read at generation 1"},
-    {CHAINS, 10, run_reads, &drives, 5, "read at generation 5"},
-    {CHAINS, 10, run_reads, &drives, 10, "read at generation 10"},
-    {CHAINS, 1, run_writes, &drives, 10, "ten writes"},
-    {CHAINS, 20, run_export, &drives, 6, "export"},
-    {1, 1, run_walk, &drives, 1, "walk of 1,337 records"},
-    {1, 1, run_hex_export, &drives, 1, "HEX export of 65,536 bytes"},
-    {1, 1, run_hex_import, &drives, 1, "HEX import of 65,536 bytes"},
-    {CHAINS, 10, run_reads, &widest_2, 8, "m 2, t 16, v 2^56: read at generation 8"},
-    {CHAINS, 1, run_writes, &widest_2, 16, "m 2, t 16, v 2^56: 16 writes"},
-    {CHAINS, 10, run_reads, &widest_3, 8, "m 3, t 16, v 2^56: read at generation 8"},
-    {CHAINS, 1, run_writes, &widest_3, 16, "m 3, t 16, v 2^56: 16 writes"},
-    {CHAINS, 10, run_reads, &widest_4, 8, "m 4, t 16, v 2^56: read at generation 8"},
-    {CHAINS, 1, run_writes, &widest_4, 16, "m 4, t 16, v 2^56: 16 writes"},
-    {CHAINS, 10, run_reads, &new_drives, 5, "form 1: read at generation 5"},
-    {CHAINS, 100, run_reads, &small, 2, "m 2, t 3, v 4: read at generation 2"},
-    {CHAINS, 100, run_writes, &small, 3, "m 2, t 3, v 4: 3 writes"},
+static void run_move_to_old(const struct calls *c, const struct task *t)
+{
+    fold(c->move_to_old(t->dump->bytes, t->dump->count, out, DUMP).length);
+}
+
+static void run_hex_export(const struct calls *c, const struct task *t)
+{
+    fold(c->hex_export(t->dump->bytes, t->dump->count, out, TEXT).length);
+}
+
+static void run_hex_import(const struct calls *c, const struct task *t)
+{
+    fold(c->hex_import(text, TEXT, out, t->dump->count).length);
+}
+
+static const struct task cases[] = {
+    {CHAINS, 20, run_layout, &drives, 1, NULL, "layout"},
+    {CHAINS, 10, run_reads, &drives, 1, NULL, "read at generation 1"},
+    {CHAINS, 10, run_reads, &drives, 5, NULL, "read at generation 5"},
+    {CHAINS, 10, run_reads, &drives, 10, NULL, "read at generation 10"},
+    {CHAINS, 1, run_writes, &drives, 10, NULL, "ten writes"},
+    {CHAINS, 20, run_export, &drives, 6, NULL, "export"},
+    {1, 1, run_walk, &drives, 0, &old_dump, "walk of 1,337 records"},
+    {1, 1, run_walk_new, &drives, 0, &new_dump, "walk of 1,680 records of a new dump"},
+    {1, 1, run_move_to_new, &drives, 0, &old_dump, "move to new of 1,337 records"},
+    {1, 1, run_move_to_new, &drives, 0, &half_dump, "move to new of 668 records"},
+    {1, 1, run_move_to_old, &drives, 0, &moved_dump, "move to old of 1,337 records"},
+    {1, 1, run_move_to_old, &drives, 0, &moved_half, "move to old of 668 records"},
+    {1, 1, run_hex_export, &drives, 0, &old_dump, "HEX export of 65,536 bytes"},
+    {1, 1, run_hex_import, &drives, 0, &old_dump, "HEX import of 65,536 bytes"},
+    {CHAINS, 10, run_reads, &widest_2, 8, NULL, "m 2, t 16, v 2^56: read at generation 8"},
+    {CHAINS, 1, run_writes, &widest_2, 16, NULL, "m 2, t 16, v 2^56: 16 writes"},
+    {CHAINS, 10, run_reads, &widest_3, 8, NULL, "m 3, t 16, v 2^56: read at generation 8"},
+    {CHAINS, 1, run_writes, &widest_3, 16, NULL, "m 3, t 16, v 2^56: 16 writes"},
+    {CHAINS, 10, run_reads, &widest_4, 8, NULL, "m 4, t 16, v 2^56: read at generation 8"},
+    {CHAINS, 1, run_writes, &widest_4, 16, NULL, "m 4, t 16, v 2^56: 16 writes"},
+    {CHAINS, 10, run_reads, &new_drives, 5, NULL, "form 1: read at generation 5"},
+    {CHAINS, 100, run_reads, &small, 2, NULL, "m 2, t 3, v 4: read at generation 2"},
+    {CHAINS, 100, run_writes, &small, 3, NULL, "m 2, t 3, v 4: 3 writes"},
 };
 
 enum { CASES = sizeof cases / sizeof cases[0] };
@@ -176,33 +213,46 @@ static void write_chains(struct sample *s)
     }
 }
 
-static size_t put_record(uint8_t *out, uint64_t serial, const uint8_t *parameters, size_t length, const uint8_t *cells)
+/* Adds records that differ in serial and cells only; what stands between comes from one with a serial of one byte. */
+static void add_records(struct dump *d, unsigned records, unsigned long_serials, const uint8_t *record, size_t length)
 {
-    size_t at = 0;
-    for (; serial >= 128; serial >>= 7)
-        out[at++] = serial | 128;
-    out[at++] = serial;
-    memcpy(out + at, parameters, length);
-    memcpy(out + at + length, cells, drives.cells);
-    return at + length + drives.cells;
+    size_t between = length - 1 - drives.cells;
+    d->records = records;
+    for (unsigned i = 0; i < records; i++) {
+        uint64_t serial = i < long_serials ? 20000 + i : 128 + i;
+        for (; serial >= 128; serial >>= 7)
+            d->bytes[d->count++] = serial | 128;
+        d->bytes[d->count++] = serial;
+        memcpy(d->bytes + d->count, record + 1, between);
+        memcpy(d->bytes + d->count + between, drives.written[i % CHAINS][i % drives.shape.t], drives.cells);
+        d->count += between + drives.cells;
+    }
 }
 
-/*
- * The dump and its text. The records differ in serial and cells only; what stands between comes from an exported one
- * with a serial of one byte.
- */
-static void make_dump(void)
+static void make_moved(struct dump *moved, const struct dump *old)
+{
+    moved->records = old->records;
+    moved->count = plain_move_to_new(old->bytes, old->count, moved->bytes, DUMP).length;
+    moved->first = plain_open_new(moved->bytes, moved->count).first;
+}
+
+/* The dumps, and the text of the old one. */
+static void make_dumps(void)
 {
     uint8_t record[MOST_RECORD];
-    const struct sample *s = &drives;
-    struct gorvlime_shape f = s->shape;
-    size_t whole = plain_export(0, f.m, f.t, f.v, s->written[0][0], s->cells, record, sizeof record).length;
-    size_t between = whole - 1 - s->cells, length = 0;
-    for (unsigned i = 0; i < RECORDS; i++) {
-        uint64_t serial = i < LONG_SERIALS ? 20000 + i : 128 + i;
-        length += put_record(dump + length, serial, record + 1, between, s->written[i % CHAINS][i % f.t]);
-    }
-    if (length != DUMP || plain_hex_export(dump, DUMP, text, TEXT).length != TEXT)
+    struct gorvlime_shape f = drives.shape;
+    const uint8_t *cells = drives.written[0][0];
+    size_t length = plain_export(0, f.m, f.t, f.v, cells, drives.cells, record, sizeof record).length;
+    add_records(&old_dump, OLD_RECORDS, OLD_LONG_SERIALS, record, length);
+    add_records(&half_dump, HALF_RECORDS, OLD_LONG_SERIALS, record, length);
+    new_dump.bytes[0] = 1;
+    new_dump.first = new_dump.count = 1 + plain_export_layout(f, new_dump.bytes + 1, DUMP - 1).length;
+    length = plain_export_record(0, 0, f, cells, drives.cells, record, sizeof record).length;
+    add_records(&new_dump, NEW_RECORDS, NEW_LONG_SERIALS, record, length);
+    make_moved(&moved_dump, &old_dump);
+    make_moved(&moved_half, &half_dump);
+    if (old_dump.count != DUMP || new_dump.count != DUMP || moved_dump.count == 0
+        || plain_hex_export(old_dump.bytes, DUMP, text, TEXT).length != TEXT)
         abort();
 }
 
@@ -211,19 +261,22 @@ static void prepare(unsigned i)
 {
     if (cases[i].sample->numbers[0][0] == 0)
         write_chains(cases[i].sample);
-    if (cases[i].run == run_walk || cases[i].run == run_hex_export || cases[i].run == run_hex_import)
-        make_dump();
+    if (cases[i].dump != NULL && cases[i].dump->count == 0)
+        make_dumps();
 }
 
 static void list_cases(void)
 {
-    for (unsigned i = 0; i < CASES; i++)
-        printf("%u %s\n", cases[i].calls, cases[i].name);
+    for (unsigned i = 0; i < CASES; i++) {
+        prepare(i);
+        const struct dump *d = cases[i].dump;
+        printf("%u %u %zu %s\n", cases[i].calls, d ? d->records : 0, d ? d->count : 0, cases[i].name);
+    }
 }
 
 static void run_case(unsigned i, const struct calls *c)
 {
-    cases[i].run(c, cases[i].sample, cases[i].generation);
+    cases[i].run(c, &cases[i]);
 }
 
 static uint64_t answers_of(unsigned i, const struct calls *c)
