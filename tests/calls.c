@@ -249,6 +249,8 @@ int main(int count, char **words)
     check_published_field();
     check_forms();
     check_dump_calls();
+    check_new_dump_calls();
+    check_moves();
     check_hex_calls();
     return done(atoi(words[1]));
 }

@@ -1,15 +1,11 @@
 /* The dump calls: export, one step, and a walk. */
 #include "chosen.h"
 #include "check.h"
+#include "walks.h"
 
 #include <inttypes.h>
 #include <stdlib.h>
 #include <string.h>
-
-#define RANGE ((uint64_t)1 << 56)
-#define MOST_SERIAL (UINT64_MAX >> 1)
-
-enum { MOST_DUMP = 65536, NO_ROW = 77 };
 
 /* `out` is the record; the lent output has `room` bytes, and those behind the record stay. */
 static const struct {
@@ -152,7 +148,7 @@ static void check_steps(void)
     }
 }
 
-static void same_walk(struct gorvlime_walked got, struct gorvlime_walked expected)
+void same_walk(struct gorvlime_walked got, struct gorvlime_walked expected)
 {
     same("refusal", got.refusal, expected.refusal);
     same("offset", got.offset, expected.offset);

@@ -36,6 +36,10 @@ void check_forms(void);
 
 void check_dump_calls(void);
 
+void check_new_dump_calls(void);
+
+void check_moves(void);
+
 void check_hex_calls(void);
 
 #endif
