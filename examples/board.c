@@ -1,5 +1,5 @@
 /*
- * Counters in write-once cells, as board firmware keeps them: size the cells, write, read back, export.
+ * Counters in write-once cells, as board firmware keeps them: size the cells, write, read back, export, and make a new dump.
  *
  *     rt staticlib gorvlime
  *     tools/cc examples/board.c target/staticlib/libgorvlime.a -o target/board
@@ -78,6 +78,50 @@ static void export_counter(const struct drive *d, uint64_t serial)
         printf("%02X%c", record[i], i + 1 < exported.length ? ' ' : '\n');
 }
 
+/* A new dump says each layout once and holds fields of either form. */
+static struct {
+    size_t count;
+    uint8_t bytes[1 + 2 * 12 + 2 * 75];   /* the count of layouts, two layouts and two records; none is longer */
+} dump;
+
+#define REST_OF_DUMP dump.bytes + dump.count, sizeof dump.bytes - dump.count
+
+/* What a refused call would have stored is 0 bytes long. */
+static void keep(struct gorvlime_stored stored)
+{
+    dump.count += stored.length;
+    if (stored.refusal != GORVLIME_ACCEPTED)
+        printf("new dump: refusal %" PRIu64 "\n", stored.refusal);
+}
+
+/* The count of layouts, then the layouts, then records that tell their layout by its place from 0. */
+static void make_dump(void)
+{
+    dump.bytes[dump.count++] = 2;
+    keep(gorvlime_export_layout(new_drive.shape, REST_OF_DUMP));
+    keep(gorvlime_export_layout(old_drive.shape, REST_OF_DUMP));
+    keep(gorvlime_export_record(301, 0, new_drive.shape, new_drive.cells, sizeof new_drive.cells, REST_OF_DUMP));
+    keep(gorvlime_export_record(300, 1, old_drive.shape, old_drive.cells, sizeof old_drive.cells, REST_OF_DUMP));
+    printf("new dump: %zu bytes\n", dump.count);
+}
+
+/* As a collector lists it. A row is serial, layout, form, m, t, v, start, length, refused, generation, number, left. */
+static void list_dump(void)
+{
+    uint64_t rows[2 * GORVLIME_ROW_NEW];
+    struct gorvlime_opened opened = gorvlime_open_new(dump.bytes, dump.count);
+    struct gorvlime_walked walked = gorvlime_walk_new(dump.bytes, dump.count, opened.first, rows,
+                                                      sizeof rows / sizeof rows[0]);
+    for (uint64_t i = 0; i < walked.rows; i++) {
+        const uint64_t *row = rows + i * GORVLIME_ROW_NEW;
+        if (row[8] != GORVLIME_ACCEPTED)
+            printf("new dump: drive %" PRIu64 " is refused with %" PRIu64 "\n", row[0], row[8]);
+        else
+            printf("new dump: drive %" PRIu64 " of form %" PRIu64 " has %" PRIu64 ", %" PRIu64 " writes left\n", row[0],
+                   row[2], row[10], row[11]);
+    }
+}
+
 int main(void)
 {
     if (!is_right_size(&new_drive) || !is_right_size(&old_drive))
@@ -92,5 +136,7 @@ int main(void)
     write_counter(&old_drive, 1000);
     write_counter(&old_drive, 1001);
     export_counter(&old_drive, 300);
+    make_dump();
+    list_dump();
     return 0;
 }
