@@ -306,21 +306,24 @@ fn moves_of_63_to_66_layouts() {
                     shapes.push(record.shape);
                 }
             }
-            let is_moved = newdump::moved_to_new(&dump).is_ok();
-            met.insert(format!("{} {}", shapes.len(), is_moved));
+            let refused = newdump::moved_to_new(&dump).err();
+            let refusal = refused.map_or(0, |refused| refused.refusal.number());
+            met.insert(format!("{} layouts: {}", shapes.len(), refusal));
             let again = records.len() > shapes.len();
             met.insert(format!("{} again {}", shapes.len(), again));
         }
     }
     let due = [
-        "0 true",
-        "1 true",
+        "0 layouts: 0",
+        "1 layouts: 0",
         "2 again true",
-        "63 true",
-        "64 true",
+        "63 layouts: 0",
+        "64 layouts: 0",
+        "64 layouts: 7",
         "64 again true",
-        "65 false",
-        "66 false",
+        "65 layouts: 7",
+        "65 layouts: 13",
+        "66 layouts: 13",
     ];
     assert_met(&met, &due);
 }

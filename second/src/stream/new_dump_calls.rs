@@ -38,9 +38,11 @@ impl Maker {
         match self.chance.between(1, 20) {
             1..=10 => self.old_dump_of_few_layouts(),
             11..=14 => self.old_dump_of_many_layouts(),
-            15 => {
-                let dump = self.old_dump_of_many_layouts();
-                self.truncated(dump)
+            // The last record is cut off, behind more layouts than a list holds too.
+            15..=16 => {
+                let mut dump = self.old_dump_of_many_layouts();
+                dump.pop();
+                dump
             }
             _ => self.dump(),
         }
@@ -96,19 +98,23 @@ impl Maker {
     /// The calls of full size before the HEX calls, from the last one back.
     pub fn full_size_new_dump_call(&mut self, place: u64) -> Option<Call> {
         let call = match place {
-            0 => self.walk_of_new_length(LONGEST_DUMP + 1),
-            1 => self.walk_of_new_length(LONGEST_DUMP),
+            0 => NewDumpCall::Walk {
+                dump: self.new_dump_of_too_many_bytes(),
+            },
+            1 => NewDumpCall::Walk {
+                dump: self.new_dump_of_length(LONGEST_DUMP),
+            },
             2 => self.move_to_new_length(LONGEST_DUMP, 0),
-            3 => self.move_to_new_length(LONGEST_DUMP + 1, 0),
+            3 => self.move_to_new_length(LONGEST_DUMP + 1, 1),
             4 => self.move_to_old_length(LONGEST_DUMP, 0),
-            5 => self.move_to_old_length(LONGEST_DUMP + 1, 0),
+            5 => self.move_to_old_length(LONGEST_DUMP + 1, 1),
             6 => NewDumpCall::MoveToNew {
                 output_length: 0,
                 dump: self.dump_of_length(LONGEST_DUMP + 1),
             },
             7 => NewDumpCall::MoveToOld {
                 output_length: 0,
-                dump: self.new_dump_of_length(LONGEST_DUMP + 1),
+                dump: self.new_dump_of_too_many_bytes(),
             },
             8 => NewDumpCall::MoveToNew {
                 output_length: 0,
@@ -134,10 +140,13 @@ impl Maker {
         Some(Call::NewDump(call))
     }
 
-    fn walk_of_new_length(&mut self, length: usize) -> NewDumpCall {
-        NewDumpCall::Walk {
-            dump: self.new_dump_of_length(length),
+    /// One byte too long. Its list is mostly broken too, so that their order decides.
+    fn new_dump_of_too_many_bytes(&mut self) -> Vec<u8> {
+        let mut dump = self.new_dump_of_length(LONGEST_DUMP + 1);
+        if !self.chance.one_in(4) {
+            dump[0] = MOST_LAYOUTS as u8 + 1;
         }
+        dump
     }
 
     /// The moved dump's length, and how much of it the output has no room for.
