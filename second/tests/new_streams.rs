@@ -185,39 +185,37 @@ fn new_dumps_are_malformed_in_every_way() {
     assert_met(&met, &due);
 }
 
+/// How many layouts a list has, which of them are used, and their forms.
+fn kinds_of_list(walk: &newdump::Walk) -> Vec<String> {
+    let count = walk.listed.len();
+    let uses = |number: usize| walk.records.iter().any(|record| record.number == number);
+    let is_again = |number: &usize| walk.listed[..*number].contains(&walk.listed[*number]);
+    let again = (0..count).find(is_again);
+    let last_used = count > 0 && uses(count - 1);
+    let mut kinds = vec![
+        format!("{} layouts, last used {}", count, last_used),
+        format!("again used {:?}", again.map(uses)),
+        format!("unused {}", !(0..count).all(uses)),
+    ];
+    let forms = walk.listed.iter().map(|layout| layout.form);
+    kinds.extend(forms.map(|form| format!("form {}", form)));
+    kinds
+}
+
 #[test]
 fn lists_of_every_kind_are_walked_to_their_end() {
     let mut met = HashSet::new();
     for call in calls(5) {
-        let dump = match call {
-            NewDumpCall::Walk { dump } => dump,
-            _ => continue,
-        };
-        let walk = newdump::walk(&dump, &mut Layouts::default());
-        if walk.ending != Ending::EndOfDump {
-            continue;
+        if let NewDumpCall::Walk { dump } = call {
+            let walk = newdump::walk(&dump, &mut Layouts::default());
+            if walk.ending == Ending::EndOfDump {
+                met.extend(kinds_of_list(&walk));
+            }
         }
-        let count = walk.listed.len();
-        let uses = |number: usize| walk.records.iter().any(|record| record.number == number);
-        met.insert(format!("{} layouts", count));
-        met.insert(format!(
-            "{} layouts, last used {}",
-            count,
-            count > 0 && uses(count - 1)
-        ));
-        let is_again = |number: usize| walk.listed[..number].contains(&walk.listed[number]);
-        let again = (0..count).find(|number| is_again(*number));
-        met.insert(format!("again used {:?}", again.map(uses)));
-        met.insert(format!("unused {}", !(0..count).all(uses)));
-        met.extend(
-            walk.listed
-                .iter()
-                .map(|layout| format!("form {}", layout.form)),
-        );
     }
     let due = [
-        "0 layouts",
-        "1 layouts",
+        "0 layouts, last used false",
+        "1 layouts, last used true",
         "63 layouts, last used true",
         "64 layouts, last used true",
         "64 layouts, last used false",
