@@ -199,19 +199,20 @@ struct gorvlime_walked gorvlime_walk(const uint8_t *dump, size_t dump_count, siz
 /*
  * One layout for the list of a new dump.
  *
- * Takes a shape and an output, at whose front it stores form, m, t, v, at most 12 bytes. Answers how many, and leaves the
- * bytes behind them as they are.
- * The board puts the count of layouts before the first one, which is one byte. Refusals: 1, 2, 9.
+ * Takes a shape and an output, stores form, m, t, v at the front of the output, leaves the bytes behind them as they are,
+ * and answers how many they are, at most 12. The count of layouts, in front of the first one, is one byte that the board
+ * writes itself.
+ * Refusals: 1, 2, 9.
  */
 struct gorvlime_stored gorvlime_export_layout(struct gorvlime_shape shape, uint8_t *out, size_t out_count);
 
 /*
- * One record of a new dump.
+ * A record of a field, for a new dump.
  *
  * Takes a serial of your choice (0 to 2^63 - 1), the number of the field's layout in the list (0 to 63), the field's shape,
  * which is that layout, its cells and an output. Stores the record at the front of the output, leaves the bytes behind it
- * as they are, and answers its length, at most 75 bytes. The list is not lent, so nobody tests that the shape is the
- * one that is listed. Cells that have no reading, blank ones of form 1 too, are exported as any others.
+ * as they are, and answers its length, at most 75 bytes. The list is not lent: that the shape is the listed one is up to
+ * you. Cells that have no reading, blank ones of form 1 too, are exported as any others.
  * Refusals: 10, 1, 2, 3, 9.
  */
 struct gorvlime_stored gorvlime_export_record(uint64_t serial, uint64_t layout, struct gorvlime_shape shape,
@@ -269,8 +270,8 @@ struct gorvlime_walked gorvlime_walk_new(const uint8_t *dump, size_t dump_count,
  *
  * Takes an old dump and an output. Stores the new dump at the front of the output, leaves the bytes behind it as they are,
  * and answers its length. The layouts are of form 0, in the order of their first use. What the cells say and whether m, t, v
- * are in bounds does not matter: every record moves. The new dump is at most 129 bytes longer, and shorter where records
- * repeat their layout; 65,536 bytes of output are always enough.
+ * are in bounds does not matter: every record moves. The new dump is at most 129 bytes longer, and shorter where layouts
+ * repeat often; 65,536 bytes of output are always enough.
  * Moved back, it is the old dump again, byte for byte.
  * Refusals: 8, 7, 13, 8 for a new dump of more than 65,536 bytes, 9.
  */

@@ -45,7 +45,8 @@ static void check_layouts(void)
     for (size_t i = 0; i < sizeof layouts / sizeof layouts[0]; i++) {
         struct lent out = lend_room(layouts[i].room);
         struct gorvlime_shape s = layouts[i].shape;
-        calling("export of layout %" PRIu64 " %" PRIu64 " %" PRIu64 " %" PRIu64 " into %zu", s.form, s.m, s.t, s.v, out.count);
+        calling("export of layout %" PRIu64 " %" PRIu64 " %" PRIu64 " %" PRIu64 " into %zu", s.form, s.m, s.t, s.v,
+                out.count);
         struct gorvlime_stored e = CALL(export_layout)(s, LENT(out));
         same("refusal", e.refusal, layouts[i].refusal);
         same("length", e.length, layouts[i].length);
