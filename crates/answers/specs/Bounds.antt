@@ -5,13 +5,17 @@ use lib.ListN.{length}
 use Rattle.answers.specs.declared.input.Window.{Window}
 use Rattle.answers.specs.declared.protocol.Call.{Call}
 
--- the most bytes of a call: an operation, an export's four numbers and its output's length, a count and 65,537 bytes
+-- the most bytes of a call: an operation, a new record's six numbers and its output's length, a count and 65,537 bytes
 abbrev pub callMost : ℕ
-callMost = 65586
+callMost = 65602
 
 -- the most bytes of an output that a call asks for
 abbrev pub outputMost : ℕ
 outputMost = 1024
+
+-- the most numbers of a row
+abbrev pub rowMost : ℕ
+rowMost = 12
 
 -- the most bytes of a piece of text
 abbrev pub pieceMost : ℕ

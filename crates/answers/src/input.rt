@@ -12,8 +12,8 @@ pub struct Window {
     pub ended: bool,
 }
 
-// The most bytes of a call: an operation, an export's five numbers, a count and 65,537 bytes.
-const CALL_MOST: usize = 65586;
+// The most bytes of a call: an operation, a new record's seven numbers, a count and 65,537 bytes.
+const CALL_MOST: usize = 65602;
 
 // Reads on where what is left might not be a whole call.
 pub fn refill(buffer: &mut [u8], w: Window) -> Window

@@ -1,17 +1,23 @@
 // The lines that answer a call.
 use crate::output;
 use crate::protocol::Broken;
+use code::Kind;
 use code::Shape;
+use dump::Halt;
+use dump::Opened;
+use dump::Walked;
 use field::Reading;
 use field::Writing;
 use storing::Made;
-ghost use Prim.Native.Nat.{_+_, _*_, _≤_};
+ghost use mathlib.Core.Path.{_≡_};
+ghost use Prim.Native.Nat.{_≤_};
 ghost use lib.ListN.{length};
-ghost use Rattle.dump.specs.Answers.{rowLength};
-ghost use Rattle.answers.specs.Bounds.{pieceMost, Fits};
+ghost use Rattle.code.specs.Dump.{walkReply};
+ghost use Rattle.dump.specs.Answers.{walkedOf};
+ghost use Rattle.answers.specs.Bounds.{pieceMost, rowMost, Fits};
 
-// The numbers of a row before the reply to reading the record's cells.
-const NUMBERS: usize = 6;
+// The numbers of a row that are the reply to reading the record's cells.
+const REPLY: usize = 4;
 
 fn put_counts(out: &mut [u8], at: usize, h: &[u64], count: usize) -> usize
     requires { ⌜ Fits at (now out) × (count ≤ length (now h)) ⌝ }
@@ -127,16 +133,85 @@ pub fn put_hex_import(out: &mut [u8], at: usize, text: &[u8], lent: &mut [u8]) -
     put_made(out, at, b"unhex", answer, lent)
 }
 
-// A line for each record, and one for how the walk ends.
+pub fn put_listed(out: &mut [u8], at: usize, s: Shape, lent: &mut [u8]) -> usize
+    requires { ⌜ Fits at (now out) ⌝ }
+    ensures { λ r. ⌜ Fits r (now (out .exit)) ⌝ }
+{
+    let answer = gorvlime::export_layout(s, lent);
+    put_made(out, at, b"listed", answer, lent)
+}
+
+pub fn put_record_export(
+    out: &mut [u8],
+    at: usize,
+    serial: u64,
+    number: u64,
+    s: Shape,
+    cells: &[u8],
+    lent: &mut [u8],
+) -> usize
+    requires { ⌜ Fits at (now out) ⌝ }
+    ensures { λ r. ⌜ Fits r (now (out .exit)) ⌝ }
+{
+    let answer = gorvlime::export_record(serial, number, s, cells, lent);
+    put_made(out, at, b"export", answer, lent)
+}
+
 pub fn put_walk(out: &mut [u8], at: usize, dump: &[u8], rows: &mut [u64]) -> usize
-    requires { ⌜ Fits at (now out) × (rowLength ≤ length (now rows)) ⌝ }
+    requires { ⌜ Fits at (now out) × (rowMost ≤ length (now rows)) ⌝ }
+    ensures { λ r. ⌜ Fits r (now (out .exit)) ⌝ }
+{
+    put_all_records(out, at, dump, Kind::Old, 0, rows)
+}
+
+pub fn put_walk_new(out: &mut [u8], at: usize, dump: &[u8], rows: &mut [u64]) -> usize
+    requires { ⌜ Fits at (now out) × (rowMost ≤ length (now rows)) ⌝ }
+    ensures { λ r. ⌜ Fits r (now (out .exit)) ⌝ }
+{
+    match gorvlime::open_new(dump) {
+        Opened::Records { start, layouts } => {
+            put_all_records(out, at, dump, Kind::New, start, rows)
+        }
+        Opened::Barred(halt) => put_halt(out, at, halt),
+    }
+}
+
+fn put_halt(out: &mut [u8], at: usize, halt: Halt) -> usize
+    requires { ⌜ Fits at (now out) ⌝ }
+    ensures { λ r. ⌜ Fits r (now (out .exit)) ⌝ }
+{
+    match halt {
+        Halt::Malformed { offset } => put_stop(out, at, 7, offset as u64),
+        Halt::Oversize => put_stop(out, at, 8, 0),
+    }
+}
+
+fn walk_on(dump: &[u8], kind: Kind, at: usize, rows: &mut [u64]) -> Walked
+    ensures { λ r. ⌜ walkedOf r ≡ walkReply kind (now (dump .entry)) at (now (rows .entry)) ⌝ }
+{
+    match kind {
+        Kind::Old => gorvlime::walk(dump, at, rows),
+        Kind::New => gorvlime::walk_new(dump, at, rows),
+    }
+}
+
+// A line for each record, and one for how the walk ends.
+fn put_all_records(
+    out: &mut [u8],
+    at: usize,
+    dump: &[u8],
+    kind: Kind,
+    start: usize,
+    rows: &mut [u64],
+) -> usize
+    requires { ⌜ Fits at (now out) × (rowMost ≤ length (now rows)) × (start ≤ length (now dump)) ⌝ }
     ensures { λ r. ⌜ Fits r (now (out .exit)) ⌝ }
 {
     let mut place = at;
-    let mut next: usize = 0;
+    let mut next = start;
     loop {
-        let w = gorvlime::walk(dump, next, rows);
-        place = put_records(out, place, dump, rows, w.rows as usize);
+        let w = walk_on(dump, kind, next, rows);
+        place = put_records(out, place, dump, kind, rows, w.rows as usize);
         if w.refusal != 0 {
             return put_stop(out, place, w.refusal, w.offset);
         }
@@ -147,33 +222,62 @@ pub fn put_walk(out: &mut [u8], at: usize, dump: &[u8], rows: &mut [u64]) -> usi
     }
 }
 
-fn put_records(out: &mut [u8], at: usize, dump: &[u8], rows: &[u64], count: usize) -> usize
-    requires { ⌜ Fits at (now out) × (rowLength * count ≤ length (now rows)) ⌝ }
+fn put_records(
+    out: &mut [u8],
+    at: usize,
+    dump: &[u8],
+    kind: Kind,
+    rows: &[u64],
+    count: usize,
+) -> usize
+    requires { ⌜ Fits at (now out) ⌝ }
     ensures { λ r. ⌜ Fits r (now (out .exit)) ⌝ }
 {
+    let width = dump::row_length(kind);
     let mut place = at;
+    let mut from = 0;
     let mut i = 0;
     while i < count {
-        place = put_record(out, place, dump, rows, dump::ROW * i);
+        // A walk fills no more rows than there are.
+        if rows.len() - from < width {
+            return place;
+        }
+        place = put_record(out, place, dump, kind, &rows[from..from + width]);
+        from += width;
         i += 1;
     }
     place
 }
 
-// The line of the row that starts at a place, with the reply to reading the record's part of the dump, which is what the row goes on with.
-fn put_record(out: &mut [u8], at: usize, dump: &[u8], rows: &[u64], from: usize) -> usize
-    requires { ⌜ Fits at (now out) × (from + rowLength ≤ length (now rows)) ⌝ }
+// The shape in a row.
+fn shape_in(kind: Kind, row: &[u64]) -> Shape
+    requires { ⌜ 10 ≤ length (now row) ⌝ }
+{
+    match kind {
+        Kind::Old => Shape {
+            form: 0,
+            m: row[1],
+            t: row[2],
+            v: row[3],
+        },
+        Kind::New => Shape {
+            form: row[2],
+            m: row[3],
+            t: row[4],
+            v: row[5],
+        },
+    }
+}
+
+// The line of a row, with the reply to reading the record's part of the dump, which is what the row goes on with.
+fn put_record(out: &mut [u8], at: usize, dump: &[u8], kind: Kind, row: &[u64]) -> usize
+    requires { ⌜ Fits at (now out) × (10 ≤ length (now row)) ⌝ }
     ensures { λ r. ⌜ Fits r (now (out .exit)) ⌝ }
 {
-    let place = output::put_numbers(out, at, b"record", &rows[from..from + NUMBERS]);
-    let s = Shape {
-        form: 0,
-        m: rows[from + 1],
-        t: rows[from + 2],
-        v: rows[from + 3],
-    };
-    let cells = gorvlime::part(dump, rows[from + 4] as usize, rows[from + 5] as usize);
-    put_reply(out, place, gorvlime::read(s, cells))
+    let numbers = row.len() - REPLY;
+    let place = output::put_numbers(out, at, b"record", &row[0..numbers]);
+    let cells = gorvlime::part(dump, row[numbers - 2] as usize, row[numbers - 1] as usize);
+    put_reply(out, place, gorvlime::read(shape_in(kind, row), cells))
 }
 
 fn put_stop(out: &mut [u8], at: usize, refusal: u64, offset: u64) -> usize

@@ -9,21 +9,26 @@
 //                                               record serial m t v start length N, for each; end | stop 7 offset | stop 8
 //     6 HEX out  outlen, bytes                  hex 0 length OUT | hex N OUT
 //     7 HEX in   outlen, text                   unhex 0 length OUT | unhex N OUT
+//     8 walk of a new dump                      record serial layout form m t v start length .. for each; end | stop 7 offset | stop 8
+//     9 move to new                             outlen, dump: new 0 length OUT | new 7 offset OUT | new N OUT
+//    10 move to old                             outlen, dump: old 0 length OUT | old 7 offset OUT | old N OUT
+//    11 layout of a new dump                    form m t v outlen: listed 0 length OUT | listed N OUT
+//    12 record of a new dump                    serial layout form m t v outlen, cells: export 0 length OUT | export N OUT
 //
 // CELLS and OUT are the lent bytes afterwards in hex, left out where there are none. A stream that can't be followed ends with `cut off`, `no such call` or
 // `too long`.
 mod input;
 mod lines;
+mod moved;
 mod output;
 mod protocol;
 
 use input::Window;
 use protocol::Call;
-use protocol::Kind;
+use protocol::Operation;
 ghost use Prim.Native.Nat.{_≤_};
 ghost use lib.ListN.{length};
-ghost use Rattle.dump.specs.Answers.{rowLength};
-ghost use Rattle.answers.specs.Bounds.{callMost, outputMost, Fits, InBuffer, Within};
+ghost use Rattle.answers.specs.Bounds.{callMost, outputMost, rowMost, Fits, InBuffer, Within};
 
 fn main() {
     let mut buffer = [0u8; 81920];
@@ -41,7 +46,7 @@ struct State {
 
 // A proved loop has to end, and nothing says that a stream does: the turns are counted down, from a number that no run uses up.
 fn answer_all(buffer: &mut [u8], rows: &mut [u64], out: &mut [u8])
-    requires { ⌜ (callMost ≤ length (now buffer)) × (rowLength ≤ length (now rows)) × Fits 0 (now out) ⌝ }
+    requires { ⌜ (callMost ≤ length (now buffer)) × (rowMost ≤ length (now rows)) × Fits 0 (now out) ⌝ }
 {
     let mut turns = u64::MAX;
     let window = Window {
@@ -62,7 +67,7 @@ fn answer_all(buffer: &mut [u8], rows: &mut [u64], out: &mut [u8])
 }
 
 fn answer_next(buffer: &mut [u8], s: State, rows: &mut [u64], out: &mut [u8]) -> State
-    requires { ⌜ InBuffer (s .window) (now buffer) × (callMost ≤ length (now buffer)) × (rowLength ≤ length (now rows)) × Fits (s .place) (now out) ⌝ }
+    requires { ⌜ InBuffer (s .window) (now buffer) × (callMost ≤ length (now buffer)) × (rowMost ≤ length (now rows)) × Fits (s .place) (now out) ⌝ }
     ensures { λ r. ⌜ InBuffer (r .window) (now (buffer .exit)) × Fits (r .place) (now (out .exit)) ⌝ }
 {
     let window = input::refill(buffer, s.window);
@@ -99,26 +104,58 @@ fn answer(
     out: &mut [u8],
     at: usize,
 ) -> usize
-    requires { ⌜ Within call (now bytes) × (rowLength ≤ length (now rows)) × (outputMost ≤ length (now lent)) × Fits at (now out) ⌝ }
+    requires { ⌜ Within call (now bytes) × (rowMost ≤ length (now rows)) × (outputMost ≤ length (now lent)) × Fits at (now out) ⌝ }
     ensures { λ r. ⌜ Fits r (now (out .exit)) ⌝ }
 {
-    let kind = call.kind;
-    let s = protocol::shape_of(call);
+    let operation = call.operation;
     let n = call.numbers;
     let start = call.start;
     let end = call.end;
     let room = call.room;
-    match kind {
-        Kind::Layout => lines::put_layout(out, at, s, n[4]),
-        Kind::Read => lines::put_read(out, at, s, &bytes[start..end]),
-        Kind::Write => lines::put_write(out, at, s, n[4], &mut bytes[start..end]),
-        Kind::Export => {
+    match operation {
+        Operation::Layout => lines::put_layout(out, at, protocol::shape_from(call, 0), n[4]),
+        Operation::Read => {
+            lines::put_read(out, at, protocol::shape_from(call, 0), &bytes[start..end])
+        },
+        Operation::Write => {
+            let s = protocol::shape_from(call, 0);
+            lines::put_write(out, at, s, n[4], &mut bytes[start..end])
+        }
+        Operation::Export => {
             let cells = &bytes[start..end];
             lines::put_export(out, at, n[0], n[1], n[2], n[3], cells, &mut lent[0..room])
         }
-        Kind::Walk => lines::put_walk(out, at, &bytes[start..end], rows),
-        Kind::HexExport => lines::put_hex_export(out, at, &bytes[start..end], &mut lent[0..room]),
-        Kind::HexImport => lines::put_hex_import(out, at, &bytes[start..end], &mut lent[0..room]),
-        Kind::Broken(why) => lines::put_broken(out, at, why),
+        Operation::Walk => lines::put_walk(out, at, &bytes[start..end], rows),
+        Operation::HexExport => lines::put_hex_export(
+            out,
+            at,
+            &bytes[start..end],
+            &mut lent[0..room],
+        ),
+        Operation::HexImport => lines::put_hex_import(
+            out,
+            at,
+            &bytes[start..end],
+            &mut lent[0..room],
+        ),
+        Operation::WalkNew => lines::put_walk_new(out, at, &bytes[start..end], rows),
+        Operation::MoveToNew => moved::put_to_new(out, at, &bytes[start..end], &mut lent[0..room]),
+        Operation::MoveToOld => moved::put_to_old(out, at, &bytes[start..end], &mut lent[0..room]),
+        Operation::ExportLayout => {
+            lines::put_listed(out, at, protocol::shape_from(call, 0), &mut lent[0..room])
+        }
+        Operation::ExportRecord => {
+            let s = protocol::shape_from(call, 2);
+            lines::put_record_export(
+                out,
+                at,
+                n[0],
+                n[1],
+                s,
+                &bytes[start..end],
+                &mut lent[0..room],
+            )
+        }
+        Operation::Broken(why) => lines::put_broken(out, at, why),
     }
 }

@@ -10,6 +10,9 @@ const BYTES_MOST: u64 = dump::DUMP_MOST as u64 + 1;
 
 pub const OUTPUT_MOST: usize = 1024;
 
+// The most numbers of a call before its output's length: those of a new dump's record.
+const NUMBERS_MOST: usize = 6;
+
 // Why a stream can't be followed.
 pub enum Broken {
     CutOff,
@@ -17,7 +20,7 @@ pub enum Broken {
     TooLong,
 }
 
-pub enum Kind {
+pub enum Operation {
     Layout,
     Read,
     Write,
@@ -25,40 +28,46 @@ pub enum Kind {
     Walk,
     HexExport,
     HexImport,
+    WalkNew,
+    MoveToNew,
+    MoveToOld,
+    ExportLayout,
+    ExportRecord,
     Broken(Broken),
 }
 
 // The numbers of a call with 0 behind them, the length of the output that it asks for, its bytes from `start` to `end`, and there its end; 0 for what is no
 // call.
 pub struct Call {
-    pub kind: Kind,
-    pub numbers: [u64; 5],
+    pub operation: Operation,
+    pub numbers: [u64; NUMBERS_MOST],
     pub room: usize,
     pub start: usize,
     pub end: usize,
 }
 
-// The shape that stands first in the numbers of a call.
-pub fn shape_of(call: Call) -> Shape
-    ensures { λ r. ⌜ (r .form ≡ getD (call .numbers) 0 0) × (r .m ≡ getD (call .numbers) 1 0) ⌝ }
-    ensures { λ r. ⌜ (r .t ≡ getD (call .numbers) 2 0) × (r .v ≡ getD (call .numbers) 3 0) ⌝ }
+// The shape that stands in the numbers of a call from a place on.
+pub fn shape_from(call: Call, first: usize) -> Shape
+    requires { ⌜ first ≤ 2 ⌝ }
+    ensures { λ r. ⌜ (r .form ≡ getD (call .numbers) first 0) × (r .m ≡ getD (call .numbers) (first + 1) 0) ⌝ }
+    ensures { λ r. ⌜ (r .t ≡ getD (call .numbers) (first + 2) 0) × (r .v ≡ getD (call .numbers) (first + 3) 0) ⌝ }
 {
     let n = call.numbers;
     Shape {
-        form: n[0],
-        m: n[1],
-        t: n[2],
-        v: n[3],
+        form: n[first],
+        m: n[first + 1],
+        t: n[first + 2],
+        v: n[first + 3],
     }
 }
 
 fn break_off(why: Broken) -> Call
     ensures { λ r. ⌜ (r .start ≡ 0) × (r .end ≡ 0) × (r .room ≡ 0) ⌝ }
 {
-    let kind = Kind::Broken(why);
-    let numbers = [0u64; 5];
+    let operation = Operation::Broken(why);
+    let numbers = [0u64; NUMBERS_MOST];
     Call {
-        kind,
+        operation,
         numbers,
         room: 0,
         start: 0,
@@ -83,22 +92,22 @@ fn number_at(s: &[u8], at: usize) -> u64
 }
 
 // The call with so many numbers, no output and no bytes.
-fn read_numbers(s: &[u8], kind: Kind, count: usize) -> Call
-    requires { ⌜ count ≤ 5 ⌝ }
+fn read_numbers(s: &[u8], operation: Operation, count: usize) -> Call
+    requires { ⌜ count ≤ 6 ⌝ }
     ensures { λ r. ⌜ Within r (now (s .entry)) ⌝ }
 {
     let end = 1 + 8 * count;
     if s.len() < end {
         return break_off(Broken::CutOff);
     }
-    let mut numbers = [0u64; 5];
+    let mut numbers = [0u64; NUMBERS_MOST];
     let mut i = 0;
     while i < count {
         numbers[i] = number_at(s, 1 + 8 * i);
         i += 1;
     }
     Call {
-        kind,
+        operation,
         numbers,
         room: 0,
         start: end,
@@ -122,10 +131,10 @@ fn read_room(s: &[u8], call: Call) -> Call
     if (OUTPUT_MOST as u64) < room {
         return break_off(Broken::TooLong);
     }
-    let kind = call.kind;
+    let operation = call.operation;
     let numbers = call.numbers;
     Call {
-        kind,
+        operation,
         numbers,
         room: room as usize,
         start: at + 8,
@@ -154,10 +163,10 @@ fn read_bytes(s: &[u8], call: Call) -> Call
     if s.len() < end {
         return break_off(Broken::CutOff);
     }
-    let kind = call.kind;
+    let operation = call.operation;
     let numbers = call.numbers;
     Call {
-        kind,
+        operation,
         numbers,
         room: call.room,
         start,
@@ -171,13 +180,18 @@ pub fn read_call(s: &[u8]) -> Call
     ensures { λ r. ⌜ Within r (now (s .entry)) ⌝ }
 {
     match s[0] {
-        1 => read_numbers(s, Kind::Layout, 5),
-        2 => read_bytes(s, read_numbers(s, Kind::Read, 4)),
-        3 => read_bytes(s, read_numbers(s, Kind::Write, 5)),
-        4 => read_bytes(s, read_room(s, read_numbers(s, Kind::Export, 4))),
-        5 => read_bytes(s, read_numbers(s, Kind::Walk, 0)),
-        6 => read_bytes(s, read_room(s, read_numbers(s, Kind::HexExport, 0))),
-        7 => read_bytes(s, read_room(s, read_numbers(s, Kind::HexImport, 0))),
+        1 => read_numbers(s, Operation::Layout, 5),
+        2 => read_bytes(s, read_numbers(s, Operation::Read, 4)),
+        3 => read_bytes(s, read_numbers(s, Operation::Write, 5)),
+        4 => read_bytes(s, read_room(s, read_numbers(s, Operation::Export, 4))),
+        5 => read_bytes(s, read_numbers(s, Operation::Walk, 0)),
+        6 => read_bytes(s, read_room(s, read_numbers(s, Operation::HexExport, 0))),
+        7 => read_bytes(s, read_room(s, read_numbers(s, Operation::HexImport, 0))),
+        8 => read_bytes(s, read_numbers(s, Operation::WalkNew, 0)),
+        9 => read_bytes(s, read_room(s, read_numbers(s, Operation::MoveToNew, 0))),
+        10 => read_bytes(s, read_room(s, read_numbers(s, Operation::MoveToOld, 0))),
+        11 => read_room(s, read_numbers(s, Operation::ExportLayout, 4)),
+        12 => read_bytes(s, read_room(s, read_numbers(s, Operation::ExportRecord, 6))),
         _ => break_off(Broken::NoSuchCall),
     }
 }

@@ -18,7 +18,7 @@ use Rattle.code.specs.Deal.{written}
 use Rattle.code.specs.Field.{blank, Writing, refused, wrote}
 use Rattle.code.specs.Run.{accepted, kept, run, total, opening}
 use Rattle.code.specs.Calls.{readCells, numberless, refusal, answer, passes, leaves, layoutRefusal, fieldRead, fieldWrite, left, readReply, writeRefusal, madeAt, writeReply, turnedBy, writeLeaves}
-use Rattle.code.specs.Dump.{exportRefusal, exportLeaves}
+use Rattle.code.specs.Dump.{Exporting, exportRefusal, exportLeaves}
 use Rattle.code.proofs.Tests.{le-or-lt, clash}
 use Rattle.code.proofs.Wits.{Bytes}
 use Rattle.code.proofs.Cells.{groups-length, sound-told, stored-opened, stored-sound, upto-all, none-at, blank-stored, turned-ones}
@@ -199,7 +199,6 @@ unfolding writeLeaves leaves
 refused-write-keeps s x bs k carried q = rw q
 
 -- A refused export leaves the output as it was.
-pub refused-export-keeps : (serial m t v : ℕ) (cells out : List ℕ) (k : ℕ) (carried : List ℕ) → exportRefusal serial m t v cells out ≡ k ∷ carried →
-    exportLeaves serial m t v cells out ≡ out
+pub refused-export-keeps : (x : Exporting) (cells out : List ℕ) (k : ℕ) (carried : List ℕ) → exportRefusal x cells out ≡ k ∷ carried → exportLeaves x cells out ≡ out
 unfolding exportLeaves leaves
-refused-export-keeps serial m t v cells out k carried q = rw q
+refused-export-keeps x cells out k carried q = rw q

@@ -8,7 +8,8 @@ use Rattle.code.specs.Dump.{ascii}
 use Rattle.code.specs.Hex.{hexDigit, hexDigits, byteSum, sumByte, hexLine, dataLine, dataLines, endRecord, hexText}
 use Rattle.code.specs.Hex.{hexExportRefusal, hexExportReply, hexExportLeaves, digitNumber, spelledByte, spelledBytes, lineBytes}
 use Rattle.code.specs.Hex.{dataCount, dataAddress, lineType, lineData, lineEnd, behindBytes, nextLine, allSpelled, misshapen, ladenEnd, wrongSum}
-use Rattle.code.specs.Hex.{displaced, lineRefusal, same, isEnd, gives, closed, importFrom, hexImport, bytesOf, importRefusal, hexImportReply}
+use Rattle.code.specs.Lists.{same}
+use Rattle.code.specs.Hex.{displaced, lineRefusal, isEnd, gives, closed, importFrom, hexImport, bytesOf, importRefusal, hexImportReply}
 use Rattle.code.specs.Hex.{hexImportLeaves}
 
 -- bytes 0 to 16

@@ -13,7 +13,8 @@ use Rattle.code.specs.Calls.{refusal}
 use Rattle.code.specs.Dump.{ascii}
 use Rattle.code.specs.Hex.{byteSum, dataLine, dataLines, lineCount, endRecord, hexText, digitNumber, spelledByte, spelledBytes, lineBytes}
 use Rattle.code.specs.Hex.{dataCount, dataAddress, lineType, lineData, lineEnd, behindBytes, nextLine, allSpelled, misshapen, ladenEnd, wrongSum}
-use Rattle.code.specs.Hex.{displaced, lineRefusal, same, isEnd, Import, faulty, gives, closed, importFrom, hexImport, bytesOf}
+use Rattle.code.specs.Lists.{same}
+use Rattle.code.specs.Hex.{displaced, lineRefusal, isEnd, Import, faulty, gives, closed, importFrom, hexImport, bytesOf}
 use Rattle.code.proofs.Tests.{both-true, clash}
 use Rattle.code.specs.HexLine.{Shaped}
 use Rattle.code.proofs.HexLines.{line-passed, next-length, data-length, passed-few}

@@ -13,7 +13,8 @@ use borrow.Author.Tests.{lt-ltb, le-ltb, le-leb, lt-leb, eq-eqb, ne-eqb, ltb-tru
 use Rattle.code.specs.Calls.{refusal}
 use Rattle.code.specs.Dump.{ascii}
 use Rattle.code.specs.Hex.{byteSum, endRecord, digitNumber, spelledByte, spelledBytes, lineBytes, dataCount, dataAddress, lineType, lineData}
-use Rattle.code.specs.Hex.{lineEnd, behindBytes, nextLine, allSpelled, misshapen, ladenEnd, wrongSum, displaced, lineRefusal, same, isEnd}
+use Rattle.code.specs.Lists.{same}
+use Rattle.code.specs.Hex.{lineEnd, behindBytes, nextLine, allSpelled, misshapen, ladenEnd, wrongSum, displaced, lineRefusal, isEnd}
 use Rattle.code.specs.HexLine.{byteAt, lineSize, Shaped}
 use Rattle.code.proofs.Tests.{le-or-lt, both-true, clash}
 use Rattle.code.proofs.LayoutCall.{passed}

@@ -28,7 +28,19 @@ pub mod Sums
 pub mod Digits
 pub mod Numerals
 pub mod Records
+pub mod ByteLists
 pub mod Walk
+pub mod Parsed
+pub mod LayoutLists
+pub mod Dumps
+pub mod Told
+pub mod FirstUse
+pub mod Settling
+pub mod Stores
+pub mod Moves
+pub mod MovedTold
+pub mod MovedLengths
+pub mod Exported
 pub mod ExportCall
 pub mod Steps
 pub mod Closing
@@ -36,3 +48,4 @@ pub mod HexLines
 pub mod HexText
 pub mod HexImport
 pub mod HexCalls
+pub mod NewDumpExamples

@@ -7,7 +7,7 @@ use native.Mathlib.Omega.{arith}
 use native.Mathlib.Nat.{pow-succ', one-le-pow}
 use lib.ListN.{length, take}
 use borrow.Author.Tests.{lt-ltb, le-ltb}
-use Rattle.code.specs.Dump.{sevens, Numeral, malformed, numeral, longer, readSevens}
+use Rattle.code.specs.Numerals.{sevens, Numeral, malformed, numeral, longer, readSevens}
 use Rattle.code.proofs.Digits.{sevens-last, sevens-split}
 use Rattle.code.proofs.Tests.{le-or-lt, clash}
 use Rattle.code.proofs.Wits.{Bytes}

@@ -1,135 +1,161 @@
--- Document 01, "Dumps": numbers in groups of seven bits, records, the walk, export and the text of `fieldlist`.
+-- Document 01, "Dumps", and document 02, §3, "Layouts said once": records, the walk of both kinds of dump, export and the text of `fieldlist`.
 use Prim.Native.Nat.{ℕ, zero, suc, _+_, _*_, _-_, _^_, _/_, _%_}
 use Prim.Native.Char.{code}
 use Prim.Native.String.{String, [] as nothing, _∷_ as _before_}
-use mathlib.Core.Bool.{Bool, true, cond, _&&_}
+use mathlib.Core.Bool.{Bool, true, false, cond}
 use mathlib.Core.List.{List, [], _∷_, _++_}
-use lib.Dec.{ltb, eqb}
+use lib.Dec.{leb, ltb, eqb}
 use lib.ListN.{length, getD, take, drop}
+use Rattle.code.specs.declared.Kind.{Kind}
+use Rattle.code.specs.declared.Kind.the-variants.{Old, New}
 use Rattle.code.specs.declared.Record.{Record}
 use Rattle.code.specs.declared.Shape.{Shape}
 use Rattle.code.specs.Shape.{shaped, outside, misfit, countsOf}
 use Rattle.code.specs.Calls.{refusal, answer, leaves, filled, unsound, readReply}
+use Rattle.code.specs.Numerals.{numeralsOf, Numbers, cut, numbers, readNumbers}
+use Rattle.code.specs.LayoutList.{Listed, unlisted, listedShape, Layouts, brokenList, layouts, layoutList}
 
--- "A number is groups of seven bits, lowest first, top bit set on all but the last", in at most so many bytes
-unfoldable pub sevens : ℕ → ℕ → List ℕ
-sevens zero x = []
-sevens (suc most) x = cond (ltb x 128) (x ∷ []) ((128 + x % 128) ∷ sevens most (x / 128))
+-- 01: "as numbers, then n bytes": a record with so many numbers before n
+unfoldable pub recordOf : List ℕ → List ℕ → List ℕ
+recordOf head cells = numeralsOf (head ++ (length cells ∷ [])) ++ cells
 
--- "as numbers", one after the other, each of "1 to 9 bytes"
-unfoldable pub numeralsOf : List ℕ → List ℕ
-numeralsOf [] = []
-numeralsOf (x ∷ xs) = sevens 9 x ++ numeralsOf xs
+-- what an export is given beside the cells and the output: its serial, whether its layout has a number that no list has, the field's shape, and the
+-- numbers before n, its head
+pub record Exporting : Type 0 where
+  pub serial : ℕ
+  pub offList : Bool
+  pub shape : Shape
+  pub head : List ℕ
 
--- "A number is groups of seven bits", read: the number and the count of its bytes, or "Malformed"
-pub data Numeral : Type 0 where
-  malformed : Numeral
-  numeral : ℕ → ℕ → Numeral
+-- 01: "A record is serial, m, t, v, n"
+abbrev pub oldExport : ℕ → ℕ → ℕ → ℕ → Exporting
+oldExport serial m t v = record { serial = serial; offList = false; shape = shaped m t v; head = serial ∷ m ∷ t ∷ v ∷ [] }
 
--- "a last group of 0 is allowed only alone (shortest form)": after a byte whose top bit is set, 0 is none
-unfoldable pub longer : ℕ → Numeral → Numeral
-longer b malformed = malformed
-longer b (numeral zero n) = malformed
-longer b (numeral (suc x) n) = numeral (b - 128 + 128 * suc x) (suc n)
-
--- "Malformed: a number cut off, over nine bytes or not shortest"
-unfoldable pub readSevens : ℕ → List ℕ → Numeral
-readSevens zero bytes = malformed
-readSevens (suc most) [] = malformed
-readSevens (suc most) (b ∷ bytes) = cond (ltb b 128) (numeral b 1) (longer b (readSevens most bytes))
-
--- "serial, m, t, v, n as numbers", read: the numbers and where they end, or "a number cut off"
-pub data Numbers : Type 0 where
-  cut : Numbers
-  numbers : List ℕ → ℕ → Numbers
-
--- "as numbers", one after the other: one more in front
-unfoldable pub preceded : ℕ → Numbers → Numbers
-preceded x cut = cut
-preceded x (numbers xs end) = numbers (x ∷ xs) end
-
--- k numbers one after the other, each of "1 to 9 bytes"
-unfoldable pub readNumbers : ℕ → List ℕ → ℕ → Numbers
-readNumbers zero bytes at = numbers [] at
-readNumbers (suc k) bytes at = elim (readSevens 9 (drop at bytes)) [ malformed ↦ cut | numeral x n ↦ preceded x (readNumbers k bytes (at + n)) ]
-
--- "A record is serial, m, t, v, n as numbers, then n bytes"
-unfoldable pub recordOf : ℕ → ℕ → ℕ → ℕ → List ℕ → List ℕ
-recordOf serial m t v cells = numeralsOf (serial ∷ m ∷ t ∷ v ∷ length cells ∷ []) ++ cells
+-- 02: "records of serial, layout number from 0, n", the number of one of "at most 64" layouts
+abbrev pub newExport : ℕ → ℕ → Shape → Exporting
+newExport serial layout s = record { serial = serial; offList = ltb 63 layout; shape = s; head = serial ∷ layout ∷ [] }
 
 -- the table's rows for export, in its order: 10, 1, 2, 3, 9
-unfoldable pub exportRefusal : ℕ → ℕ → ℕ → ℕ → List ℕ → List ℕ → List ℕ
-exportRefusal serial m t v cells out = refusal (
-    (10 ∷ [], ltb (2 ^ 63 - 1) serial) ∷
-    (1 ∷ [], outside (shaped m t v) 256) ∷
-    (2 ∷ [], misfit 256 (countsOf (shaped m t v))) ∷
-    (3 ∷ [], unsound (shaped m t v) cells) ∷
-    (9 ∷ [], ltb (length out) (length (recordOf serial m t v cells))) ∷ [])
+unfoldable pub exportRefusal : Exporting → List ℕ → List ℕ → List ℕ
+exportRefusal x cells out = refusal (
+    (10 ∷ [], ltb (2 ^ 63 - 1) (x .serial)) ∷
+    (1 ∷ [], cond (x .offList) true (outside (x .shape) 256)) ∷
+    (2 ∷ [], misfit 256 (countsOf (x .shape))) ∷
+    (3 ∷ [], unsound (x .shape) cells) ∷
+    (9 ∷ [], ltb (length out) (length (recordOf (x .head) cells))) ∷ [])
 
 -- "answers its length"
-unfoldable pub exportReply : ℕ → ℕ → ℕ → ℕ → List ℕ → List ℕ → List ℕ
-exportReply serial m t v cells out = answer (exportRefusal serial m t v cells out) (length (recordOf serial m t v cells) ∷ [])
+unfoldable pub exportReply : Exporting → List ℕ → List ℕ → List ℕ
+exportReply x cells out = answer (exportRefusal x cells out) (length (recordOf (x .head) cells) ∷ [])
 
 -- "An accepted export stores the record at the front of the output, leaves later bytes unchanged"
-unfoldable pub exportLeaves : ℕ → ℕ → ℕ → ℕ → List ℕ → List ℕ → List ℕ
-exportLeaves serial m t v cells out =
-    let made = recordOf serial m t v cells in
-    leaves (exportRefusal serial m t v cells out) (made ++ drop (length made) out) out
+unfoldable pub exportLeaves : Exporting → List ℕ → List ℕ → List ℕ
+exportLeaves x cells out =
+    let made = recordOf (x .head) cells in
+    leaves (exportRefusal x cells out) (made ++ drop (length made) out) out
 
--- "The walk gives serial, m, t, v and the record's cell bytes", here by start and count; the end; or a stop with its refusal and what that carries
+-- how the records of a dump say their layouts: "serial, m, t, v", each its own (01), or "serial, layout number from 0" of a list (02)
+pub data Source : Type 0 where
+  ownLayouts : Source
+  listedLayouts : List Listed → Source
+
+-- how many numbers stand before n
+abbrev pub headLength : Source → ℕ
+headLength ownLayouts = 4
+headLength (listedLayouts ls) = 2
+
+-- "The walk gives serial, m, t, v and the record's cell bytes", these by start and count; the end; or a stop with its refusal and what that carries
 pub data Step : Type 0 where
   taken : Record → Step
   ended : Step
   stopped : ℕ → List ℕ → Step
 
--- the record of five numbers, whose cells start behind them
-unfoldable pub recordBy : List ℕ → ℕ → Record
-recordBy xs start = record { serial = getD xs 0 0; m = getD xs 1 0; t = getD xs 2 0; v = getD xs 3 0; start = start; count = getD xs 4 0 }
+-- the record of the numbers before its cells, which start behind them
+unfoldable pub recordBy : Source → List ℕ → ℕ → Record
+recordBy ownLayouts xs start =
+    record { serial = getD xs 0 0; layout = 0; shape = shaped (getD xs 1 0) (getD xs 2 0) (getD xs 3 0); start = start; count = getD xs 4 0 }
+recordBy (listedLayouts ls) xs start =
+    record { serial = getD xs 0 0; layout = getD xs 1 0; shape = listedShape (getD ls (getD xs 1 0) unlisted); start = start; count = getD xs 2 0 }
 
--- "a number cut off, over nine bytes or not shortest, or fewer than n bytes after n"
-unfoldable pub broken : List ℕ → Numbers → Bool
-broken bytes cut = true
-broken bytes (numbers xs start) = ltb (length bytes - start) (getD xs 4 0)
+-- 02: "a layout number out of the list counting as 7"
+unfoldable pub outOfList : Source → List ℕ → Bool
+outOfList ownLayouts xs = false
+outOfList (listedLayouts ls) xs = leb (length ls) (getD xs 1 0)
 
--- the table's rows for the walk, 8 before 7, at a place of the dump: "A dump: 0 to 65,536 bytes"; "7 also the offset of the record's first byte"
-unfoldable pub stepRefusal : List ℕ → ℕ → List ℕ
-stepRefusal bytes at = refusal (
-    (8 ∷ [], ltb 65536 (length bytes)) ∷
-    (7 ∷ at ∷ [], ltb at (length bytes) && broken bytes (readNumbers 5 bytes at)) ∷ [])
+-- 01: "a number cut off, over nine bytes or not shortest, or fewer than n bytes after n"
+unfoldable pub broken : Source → List ℕ → Numbers → Bool
+broken source bytes cut = true
+broken source bytes (numbers xs start) = cond (outOfList source xs) true (ltb (length bytes - start) (getD xs (headLength source) 0))
 
--- the record that stands before the dump's end: "A dump is records up to its end"
-unfoldable pub found : Numbers → Step
-found cut = ended
-found (numbers xs start) = taken (recordBy xs start)
+-- the record of numbers that are not broken
+unfoldable pub found : Source → Numbers → Step
+found source cut = ended
+found source (numbers xs start) = taken (recordBy source xs start)
 
--- before the end of a dump that is not too long: the record, or refusal 7
-abbrev pub recordAt : List ℕ → ℕ → Numbers → Step
-recordAt bytes at ns = cond (broken bytes ns) (stopped 7 (at ∷ [])) (found ns)
+-- before the end of a dump: the record, or 7, which carries "also the offset of the record's first byte"
+abbrev pub recordAt : Source → List ℕ → ℕ → Numbers → Step
+recordAt source bytes at ns = cond (broken source bytes ns) (stopped 7 (at ∷ [])) (found source ns)
 
--- a step that is not refused gives a record or is at the end
-unfoldable pub stepOn : List ℕ → Step → Step
-stepOn [] s = s
-stepOn (k ∷ carried) s = stopped k carried
+-- "A dump is records up to its end": the step at a place
+unfoldable pub stepIn : Source → List ℕ → ℕ → Step
+stepIn source bytes at = cond (ltb at (length bytes)) (recordAt source bytes at (readNumbers (suc (headLength source)) bytes at)) ended
+
+-- a dump at its front: where its records begin and how they say their layouts, or the refusal of the whole dump and what that carries
+pub data Opening : Type 0 where
+  barred : ℕ → List ℕ → Opening
+  entered : Source → ℕ → Opening
+
+-- 02: "a broken layout list, or a count above 64, as 7 at offset 0"
+unfoldable pub behindList : Layouts → Opening
+behindList brokenList = barred 7 (0 ∷ [])
+behindList (layouts ls start) = entered (listedLayouts ls) start
+
+-- the records of an old dump begin at once, those of a new one behind its layout list
+unfoldable pub openingAs : Kind → List ℕ → Opening
+openingAs Old bytes = entered ownLayouts 0
+openingAs New bytes = behindList (layoutList bytes)
+
+-- the table's rows for the walk, 8 before 7: "A dump: 0 to 65,536 bytes"
+unfoldable pub opening : Kind → List ℕ → Opening
+opening kind bytes = cond (ltb 65536 (length bytes)) (barred 8 []) (openingAs kind bytes)
+
+-- how many layouts a dump lists
+abbrev pub listedMany : Source → ℕ
+listedMany ownLayouts = 0
+listedMany (listedLayouts ls) = length ls
+
+-- docs/DECISIONS.md, 66: the reply to opening a dump: its layouts and where its records begin
+unfoldable pub openedBy : Opening → List ℕ
+openedBy (barred k carried) = k ∷ carried
+openedBy (entered source start) = 0 ∷ listedMany source ∷ start ∷ []
+
+unfoldable pub openReply : Kind → List ℕ → List ℕ
+openReply kind bytes = openedBy (opening kind bytes)
+
+-- one step of the walk of a dump that is opened
+unfoldable pub stepOn : Opening → List ℕ → ℕ → Step
+stepOn (barred k carried) bytes at = stopped k carried
+stepOn (entered source start) bytes at = stepIn source bytes at
 
 -- one step of the walk
-unfoldable pub step : List ℕ → ℕ → Step
-step bytes at = stepOn (stepRefusal bytes at) (cond (ltb at (length bytes)) (found (readNumbers 5 bytes at)) ended)
+unfoldable pub step : Kind → List ℕ → ℕ → Step
+step kind bytes at = stepOn (opening kind bytes) bytes at
 
 -- "the record's cell bytes as a part of the dump"
 unfoldable pub cellsOf : List ℕ → Record → List ℕ
 cellsOf bytes r = take (r .count) (drop (r .start) bytes)
 
--- the numbers of a record that the walk gives
-unfoldable pub recordNumbers : Record → List ℕ
-recordNumbers r = r .serial ∷ r .m ∷ r .t ∷ r .v ∷ r .start ∷ r .count ∷ []
+-- the numbers of a shape
+abbrev pub shapeNumbers : Shape → List ℕ
+shapeNumbers s = s .form ∷ s .m ∷ s .t ∷ s .v ∷ []
 
--- the shape that a record's field has
-abbrev pub shapeOf : Record → Shape
-shapeOf r = shaped (r .m) (r .t) (r .v)
+-- the numbers of a record that the walk gives; in an old dump the layout's number and the form are 0
+unfoldable pub recordNumbers : Record → List ℕ
+recordNumbers r = r .serial ∷ r .layout ∷ (shapeNumbers (r .shape) ++ (r .start ∷ r .count ∷ []))
 
 -- "then reads them; refusals 1 to 4 belong to that record and the walk goes on"
 unfoldable pub outcome : List ℕ → Record → List ℕ
-outcome bytes r = readReply (shapeOf r) (cellsOf bytes r)
+outcome bytes r = readReply (r .shape) (cellsOf bytes r)
 
 -- the walk's step at a place, as a reply
 unfoldable pub stepValues : List ℕ → Step → List ℕ
@@ -138,33 +164,48 @@ stepValues bytes ended = 0 ∷ []
 stepValues bytes (stopped k carried) = k ∷ carried
 
 -- the same of a place of the dump
-unfoldable pub stepReply : List ℕ → ℕ → List ℕ
-stepReply bytes at = stepValues bytes (step bytes at)
+unfoldable pub stepReply : Kind → List ℕ → ℕ → List ℕ
+stepReply kind bytes at = stepValues bytes (step kind bytes at)
 
 -- all steps from a place on: "the walk goes on", "Refusal 7 ends it"
-unfoldable pub walkFrom : ℕ → List ℕ → ℕ → List Step
-walkFrom zero bytes at = []
-walkFrom (suc fuel) bytes at = elim (step bytes at) [
-  | taken r ↦ taken r ∷ walkFrom fuel bytes (r .start + r .count)
+unfoldable pub walkFrom : ℕ → Kind → List ℕ → ℕ → List Step
+walkFrom zero kind bytes at = []
+walkFrom (suc fuel) kind bytes at = elim (step kind bytes at) [
+  | taken r ↦ taken r ∷ walkFrom fuel kind bytes (r .start + r .count)
   | ended ↦ ended ∷ []
   | stopped k carried ↦ stopped k carried ∷ []
 ]
 
--- "A dump is records up to its end": all steps from its first byte on
-unfoldable pub walk : List ℕ → List Step
-walk bytes = walkFrom (suc (length bytes)) bytes 0
+-- "up to its end": the steps from a place on; a record takes a byte at least, so that the fuel is enough
+abbrev pub onward : Kind → List ℕ → ℕ → List Step
+onward kind bytes at = walkFrom (suc (length bytes - at)) kind bytes at
 
--- "up to its end": the steps from a place on, with just enough fuel
-abbrev pub onward : List ℕ → ℕ → List Step
-onward bytes at = walkFrom (suc (length bytes - at)) bytes at
+-- where the records of a dump begin, and a refusal of the whole dump is met
+unfoldable pub startOf : Opening → ℕ
+startOf (barred k carried) = 0
+startOf (entered source start) = start
 
--- docs/DECISIONS.md, 35: the walk into lent rows, ten numbers for each record: serial, m, t, v, the start and count of its cells, and the reply to reading
--- them, 0 where it lacks a number
-unfoldable pub rowsOf : List ℕ → List Step → List ℕ
-rowsOf bytes [] = []
-rowsOf bytes (taken r ∷ steps) = (recordNumbers r ++ filled 4 (outcome bytes r)) ++ rowsOf bytes steps
-rowsOf bytes (ended ∷ steps) = []
-rowsOf bytes (stopped k carried ∷ steps) = []
+-- 01: "A dump is records up to its end"; 02: "a second call walks it as before": all steps
+unfoldable pub walk : Kind → List ℕ → List Step
+walk kind bytes = onward kind bytes (startOf (opening kind bytes))
+
+-- docs/DECISIONS.md, 35: what a row of a walk has before the reply to reading: of an old dump serial, m, t, v, the start and count of the cells, of a new
+-- one the layout's number and the form too
+unfoldable pub rowNumbers : Kind → Record → List ℕ
+rowNumbers Old r = r .serial ∷ r .shape .m ∷ r .shape .t ∷ r .shape .v ∷ r .start ∷ r .count ∷ []
+rowNumbers New r = recordNumbers r
+
+-- the numbers of a row
+abbrev pub rowLength : Kind → ℕ
+rowLength Old = 10
+rowLength New = 12
+
+-- the same entry: the walk into lent rows, 0 where the reply to reading lacks a number
+unfoldable pub rowsOf : Kind → List ℕ → List Step → List ℕ
+rowsOf kind bytes [] = []
+rowsOf kind bytes (taken r ∷ steps) = (rowNumbers kind r ++ filled 4 (outcome bytes r)) ++ rowsOf kind bytes steps
+rowsOf kind bytes (ended ∷ steps) = []
+rowsOf kind bytes (stopped k carried ∷ steps) = []
 
 -- the same entry: after so many rows the refusal and its offset, the rows filled, where the next step would start, and 1 where the end was reached
 unfoldable pub closing : ℕ → ℕ → List Step → List ℕ
@@ -173,14 +214,22 @@ closing at rows (taken r ∷ steps) = closing (r .start + r .count) (suc rows) s
 closing at rows (ended ∷ steps) = 0 ∷ 0 ∷ rows ∷ at ∷ 1 ∷ []
 closing at rows (stopped k carried ∷ steps) = k ∷ getD carried 0 0 ∷ rows ∷ at ∷ 0 ∷ []
 
--- docs/DECISIONS.md, 23: as many steps as whole rows fit; a dump that is too long is refused before the first
-unfoldable pub walkReply : List ℕ → ℕ → List ℕ → List ℕ
-walkReply bytes at rows = cond (ltb 65536 (length bytes)) (8 ∷ 0 ∷ 0 ∷ 0 ∷ 0 ∷ []) (closing at 0 (walkFrom (length rows / 10) bytes at))
+-- as many steps as whole rows fit
+abbrev pub rowSteps : Kind → List ℕ → ℕ → List ℕ → List Step
+rowSteps kind bytes at rows = walkFrom (length rows / rowLength kind) kind bytes at
+
+-- docs/DECISIONS.md, 23: a dump that is refused as a whole is refused before the first
+unfoldable pub walkOn : Opening → List ℕ → List ℕ
+walkOn (barred k carried) reply = k ∷ getD carried 0 0 ∷ 0 ∷ 0 ∷ 0 ∷ []
+walkOn (entered source start) reply = reply
+
+unfoldable pub walkReply : Kind → List ℕ → ℕ → List ℕ → List ℕ
+walkReply kind bytes at rows = walkOn (opening kind bytes) (closing at 0 (rowSteps kind bytes at rows))
 
 -- the same entry: the rows filled, and behind them what stood there
-unfoldable pub walkLeaves : List ℕ → ℕ → List ℕ → List ℕ
-walkLeaves bytes at rows =
-    let made = rowsOf bytes (walkFrom (length rows / 10) bytes at) in
+unfoldable pub walkLeaves : Kind → List ℕ → ℕ → List ℕ → List ℕ
+walkLeaves kind bytes at rows =
+    let made = rowsOf kind bytes (rowSteps kind bytes at rows) in
     made ++ drop (length made) rows
 
 -- the bytes of a text that "`fieldlist` .. prints"
@@ -221,9 +270,9 @@ lines bytes count (ended ∷ steps) = lastLine count
 lines bytes count (stopped k carried ∷ steps) = stopLines count k carried
 
 -- the same from a place on, after so many records
-abbrev pub textFrom : List ℕ → ℕ → ℕ → List ℕ
-textFrom bytes at count = lines bytes count (onward bytes at)
+abbrev pub textFrom : Kind → List ℕ → ℕ → ℕ → List ℕ
+textFrom kind bytes at count = lines bytes count (onward kind bytes at)
 
 -- "`fieldlist` reads standard input and prints": the text of a dump
-unfoldable pub listing : List ℕ → List ℕ
-listing bytes = lines bytes 0 (walk bytes)
+unfoldable pub listing : Kind → List ℕ → List ℕ
+listing kind bytes = lines bytes 0 (walk kind bytes)

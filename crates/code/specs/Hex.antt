@@ -4,6 +4,7 @@ use mathlib.Core.Bool.{Bool, true, false, cond, not, _&&_}
 use mathlib.Core.List.{List, [], _∷_, _++_}
 use lib.Dec.{leb, ltb, eqb}
 use lib.ListN.{length, getD, take, drop}
+use Rattle.code.specs.Lists.{same}
 use Rattle.code.specs.Calls.{refusal, answer, leaves}
 use Rattle.code.specs.Dump.{ascii}
 
@@ -140,13 +141,6 @@ lineRefusal n line = refusal (
     (21 ∷ [], wrongSum line) ∷
     (22 ∷ [], displaced n line) ∷
     (24 ∷ [], ltb 1 (lineType line)) ∷ [])
-
--- two lists number for number
-unfoldable pub same : List ℕ → List ℕ → Bool
-same [] [] = true
-same [] (y ∷ ys) = false
-same (x ∷ xs) [] = false
-same (x ∷ xs) (y ∷ ys) = eqb x y && same xs ys
 
 -- a line is "the end record" where it spells the same bytes, in "either letter case"
 unfoldable pub isEnd : List ℕ → Bool

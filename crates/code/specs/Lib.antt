@@ -8,6 +8,9 @@ pub mod Cells
 pub mod Field
 pub mod Run
 pub mod Calls
+pub mod Numerals
+pub mod LayoutList
 pub mod Dump
 pub mod Hex
 pub mod HexLine
+pub mod NewDump

@@ -1,6 +1,8 @@
 -- Statements about lists of numbers that the theorems cite.
 use Prim.Native.Nat.{ℕ, _≤_, _<_}
+use mathlib.Core.Bool.{Bool, true, false, _&&_}
 use mathlib.Core.List.{List, [], _∷_}
+use lib.Dec.{eqb}
 
 -- 01, Dealing: "Values 1 to 2^m − 1": every number is at most b
 abbrev pub Upto : ℕ → List ℕ → Type 0
@@ -18,3 +20,10 @@ Rises [] [] = Unit {0}
 Rises [] (y ∷ ys) = ⊥
 Rises (x ∷ xs) [] = ⊥
 Rises (x ∷ xs) (y ∷ ys) = (x ≤ y) × Rises xs ys
+
+-- two lists number for number
+unfoldable pub same : List ℕ → List ℕ → Bool
+same [] [] = true
+same [] (y ∷ ys) = false
+same (x ∷ xs) [] = false
+same (x ∷ xs) (y ∷ ys) = eqb x y && same xs ys

@@ -1,4 +1,4 @@
-// Document 01 as definitions (specs/) and the theorems about them (proofs/). Of the program only what the definitions share with it stands here.
+// Documents 01 and 02 as definitions (specs/) and the theorems about them (proofs/). Of the program only what the definitions share with it stands here.
 
 // What a caller gives of a field.
 #[repr(C)]
@@ -13,12 +13,18 @@ pub struct Shape {
     pub v: u64,
 }
 
+// The two kinds of dump: the old one has m, t and v in every record, the new one lists its layouts once.
+pub enum Kind {
+    Old,
+    New,
+}
+
 // A record of a dump: its cells are the `count` bytes from `start` on.
 pub struct Record {
     pub serial: u64,
-    pub m: u64,
-    pub t: u64,
-    pub v: u64,
+    // The place of its layout in the list of a new dump, 0 in an old one.
+    pub layout: u64,
+    pub shape: Shape,
     pub start: usize,
     pub count: usize,
 }

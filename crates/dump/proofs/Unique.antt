@@ -1,10 +1,13 @@
--- The promises of `step_at`, `step_kept`, `export` and `walk` leave no choice: two answers that one of them allows are equal, and so is the output afterwards.
+-- The promises of steps, walks and exports leave no choice: two answers that one of them allows are equal, and so is the output afterwards.
 use Prim.Native.Nat.{ℕ}
 use mathlib.Core.Path.{_≡_, refl, sym, ap, _∙_}
 use mathlib.Core.List.{List}
 use native.Mathlib.Omega.{arith}
 use lib.ListN.{length}
-use Rattle.code.specs.Dump.{recordNumbers, stepReply, exportReply, exportLeaves, walkReply, walkLeaves}
+use Rattle.code.specs.declared.Shape.{Shape}
+use Rattle.code.specs.declared.Kind.the-variants.{Old, New}
+use Rattle.code.specs.Dump.{recordNumbers, openReply, stepReply, oldExport, newExport, exportReply, exportLeaves, walkReply, walkLeaves}
+use Rattle.code.specs.NewDump.{layoutExportReply, layoutExportLeaves}
 use Rattle.code.proofs.Tests.{clash}
 use Rattle.storing.specs.Answers.{madeOf}
 use Rattle.storing.specs.declared.Made.{Made}
@@ -12,9 +15,11 @@ use Rattle.storing.proofs.Unique.{made-alike}
 use Rattle.code.proofs.Steps.{numbers-same}
 use Rattle.field.specs.Answers.{readingOf}
 use Rattle.field.proofs.Unique.{same-reading}
-use Rattle.dump.specs.Answers.{haltOf, stepOf, walkedOf}
+use Rattle.dump.specs.Answers.{haltOf, openedReply, stepOf, walkedOf}
 use Rattle.dump.specs.declared.Halt.{Halt}
 use Rattle.dump.specs.declared.Halt.the-variants.{Malformed, Oversize}
+use Rattle.dump.specs.declared.Opened.{Opened}
+use Rattle.dump.specs.declared.Opened.the-variants.{Records, Barred}
 use Rattle.dump.specs.declared.Step.{Step}
 use Rattle.dump.specs.declared.Step.the-variants.{Record, End, Stop}
 use Rattle.dump.specs.declared.Walked.{Walked}
@@ -47,21 +52,62 @@ same-step (Stop h) (Stop h′) q =
     let a : h ≡ h′ = same-halt h h′ q in
     rw a
 
-pub unique-step : (bytes : List ℕ) (at : ℕ) (r r′ : Step) → stepOf r ≡ stepReply bytes at → stepOf r′ ≡ stepReply bytes at → r ≡ r′
+same-opened : (r r′ : Opened) → openedReply r ≡ openedReply r′ → r ≡ r′
+same-opened (Records start count) (Records start′ count′) q =
+    let a : start ≡ start′ = cc in
+    let b : count ≡ count′ = cc in
+    rw (a, b)
+same-opened (Records start count) (Barred (Malformed offset)) q = clash (cc)
+same-opened (Records start count) (Barred Oversize) q = clash (cc)
+same-opened (Barred (Malformed offset)) (Records start count) q = clash (cc)
+same-opened (Barred Oversize) (Records start count) q = clash (cc)
+same-opened (Barred h) (Barred h′) q =
+    let a : h ≡ h′ = same-halt h h′ q in
+    rw a
+
+pub unique-open-new : (bytes : List ℕ) (r r′ : Opened) → openedReply r ≡ openReply New bytes → openedReply r′ ≡ openReply New bytes → r ≡ r′
+unique-open-new bytes r r′ p q = same-opened r r′ (p ∙ sym q)
+
+pub unique-step : (bytes : List ℕ) (at : ℕ) (r r′ : Step) → stepOf r ≡ stepReply Old bytes at → stepOf r′ ≡ stepReply Old bytes at → r ≡ r′
 unique-step bytes at r r′ p q = same-step r r′ (p ∙ sym q)
 
-pub unique-export : (serial m t v : ℕ) (cells out after after′ : List ℕ) (r r′ : Made) →
-    madeOf r ≡ exportReply serial m t v cells out → after ≡ exportLeaves serial m t v cells out →
-    madeOf r′ ≡ exportReply serial m t v cells out → after′ ≡ exportLeaves serial m t v cells out → (r ≡ r′) × (after ≡ after′)
-unique-export serial m t v cells out = made-alike (exportReply serial m t v cells out) (exportLeaves serial m t v cells out)
+pub unique-step-new : (bytes : List ℕ) (at : ℕ) (r r′ : Step) → stepOf r ≡ stepReply New bytes at → stepOf r′ ≡ stepReply New bytes at → r ≡ r′
+unique-step-new bytes at r r′ p q = same-step r r′ (p ∙ sym q)
 
-pub unique-walk : (bytes : List ℕ) (at : ℕ) (rows after after′ : List ℕ) (r r′ : Walked) →
-    walkedOf r ≡ walkReply bytes at rows → after ≡ walkLeaves bytes at rows →
-    walkedOf r′ ≡ walkReply bytes at rows → after′ ≡ walkLeaves bytes at rows → (r ≡ r′) × (after ≡ after′)
-unique-walk bytes at rows after after′ r r′ p a p′ a′ =
+pub unique-export : (serial m t v : ℕ) (cells out after after′ : List ℕ) (r r′ : Made) →
+    madeOf r ≡ exportReply (oldExport serial m t v) cells out → after ≡ exportLeaves (oldExport serial m t v) cells out →
+    madeOf r′ ≡ exportReply (oldExport serial m t v) cells out → after′ ≡ exportLeaves (oldExport serial m t v) cells out → (r ≡ r′) × (after ≡ after′)
+unique-export serial m t v cells out = made-alike (exportReply (oldExport serial m t v) cells out) (exportLeaves (oldExport serial m t v) cells out)
+
+pub unique-export-record : (serial number : ℕ) (shape : Shape) (cells out after after′ : List ℕ) (r r′ : Made) →
+    madeOf r ≡ exportReply (newExport serial number shape) cells out → after ≡ exportLeaves (newExport serial number shape) cells out →
+    madeOf r′ ≡ exportReply (newExport serial number shape) cells out → after′ ≡ exportLeaves (newExport serial number shape) cells out →
+    (r ≡ r′) × (after ≡ after′)
+unique-export-record serial number shape cells out =
+    made-alike (exportReply (newExport serial number shape) cells out) (exportLeaves (newExport serial number shape) cells out)
+
+pub unique-layout-export : (shape : Shape) (out after after′ : List ℕ) (r r′ : Made) →
+    madeOf r ≡ layoutExportReply shape out → after ≡ layoutExportLeaves shape out →
+    madeOf r′ ≡ layoutExportReply shape out → after′ ≡ layoutExportLeaves shape out → (r ≡ r′) × (after ≡ after′)
+unique-layout-export shape out = made-alike (layoutExportReply shape out) (layoutExportLeaves shape out)
+
+walk-alike : (reply leaves after after′ : List ℕ) (r r′ : Walked) → walkedOf r ≡ reply → after ≡ leaves → walkedOf r′ ≡ reply → after′ ≡ leaves →
+    (r ≡ r′) × (after ≡ after′)
+walk-alike reply leaves after after′ r r′ p a p′ a′ =
+    let q : walkedOf r ≡ walkedOf r′ = p ∙ sym p′ in
     let b : r .refusal ≡ r′ .refusal = cc in
     let c : r .offset ≡ r′ .offset = cc in
     let d : r .rows ≡ r′ .rows = cc in
     let e : r .next ≡ r′ .next = cc in
     let f : r .ended ≡ r′ .ended = cc in
     (λ i. record { refusal = b i; offset = c i; rows = d i; next = e i; ended = f i }, a ∙ sym a′)
+
+pub unique-walk : (bytes : List ℕ) (at : ℕ) (rows after after′ : List ℕ) (r r′ : Walked) →
+    walkedOf r ≡ walkReply Old bytes at rows → after ≡ walkLeaves Old bytes at rows →
+    walkedOf r′ ≡ walkReply Old bytes at rows → after′ ≡ walkLeaves Old bytes at rows → (r ≡ r′) × (after ≡ after′)
+unique-walk bytes at rows = walk-alike (walkReply Old bytes at rows) (walkLeaves Old bytes at rows)
+
+pub unique-walk-new : (bytes : List ℕ) (at : ℕ) (rows after after′ : List ℕ) (r r′ : Walked) →
+    walkedOf r ≡ walkReply New bytes at rows → after ≡ walkLeaves New bytes at rows →
+    walkedOf r′ ≡ walkReply New bytes at rows → after′ ≡ walkLeaves New bytes at rows → (r ≡ r′) × (after ≡ after′)
+unique-walk-new bytes at rows = walk-alike (walkReply New bytes at rows) (walkLeaves New bytes at rows)

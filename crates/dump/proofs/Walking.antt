@@ -3,79 +3,196 @@ use Prim.Native.Nat.{ℕ, _+_, _≤_, _<_, zero, suc, _*_, _-_, _/_}
 use mathlib.Core.Path.{_≡_, ap, refl, sym, _∙_}
 use mathlib.Core.List.{List, [], _∷_, _++_, append-assoc, append-nil}
 use native.Mathlib.Omega.{arith}
-use Rattle.code.specs.Dump.{taken, ended, stopped, step, outcome, stepValues, stepReply, recordNumbers, walkFrom, rowsOf, closing, walkReply, walkLeaves}
-use Rattle.code.proofs.Steps.{told-record, told-ended, told-stopped}
-use Rattle.code.proofs.Walk.{step-forward, walk-taken, walk-ended, walk-stopped}
-use Rattle.field.specs.Answers.{readingOf}
-use Rattle.field.specs.declared.Reading.{Reading}
-use Rattle.dump.specs.Answers.{dumpMost, haltNumber, haltCarries, stepOf, rowLength, haltedBy}
-use Rattle.dump.specs.declared.Halt.{Halt}
-use Rattle.dump.specs.declared.Halt.the-variants.{Malformed, Oversize}
-use Rattle.dump.specs.declared.Step.{Step}
-use Rattle.dump.specs.declared.Step.the-variants.{Record, End, Stop}
 use native.Mathlib.Nat.{sub-zero}
 use native.Mathlib.Numerals.{add-one}
-use lib.ListN.{length}
-use borrow.Author.Tests.{lt-ltb, le-ltb}
+use lib.ListN.{length, take}
+use lib.Seq.{length-take-le}
+use Rattle.code.specs.declared.Kind.{Kind}
+use Rattle.code.specs.declared.Kind.the-variants.{Old, New}
+use Rattle.code.specs.declared.Record as Declared
 use Rattle.code.specs.Calls.{filled}
+use Rattle.code.specs.Dump as Code
+use Rattle.code.specs.Dump.{taken, ended, stopped, barred, entered, behindList, openingAs, opening, openedBy, openReply, startOf, step, outcome, stepValues, stepReply, recordNumbers, walkFrom, rowNumbers, rowLength, rowSteps}
+use Rattle.code.specs.Dump.{rowsOf, closing, walkOn, walkReply, walkLeaves}
+use Rattle.code.specs.Numerals.{readNumbers}
 use Rattle.code.proofs.LayoutCall.{filled-length}
-use Rattle.code.proofs.Records.{step-oversize}
+use Rattle.code.proofs.Records.{open-oversize, open-short, step-barred, step-entered, step-ended, step-inside}
+use Rattle.code.proofs.Dumps.{entered-within}
+use Rattle.code.proofs.Steps.{Barring, open-barring, told-record, told-ended, told-stopped}
+use Rattle.code.proofs.Walk.{entered-short, step-forward, walk-taken, walk-ended, walk-stopped}
+use Rattle.field.specs.Answers.{readingOf}
+use Rattle.field.specs.declared.Reading.{Reading}
+use Rattle.code.specs.LayoutList.{layoutList}
+use Rattle.records.specs.Source.{layoutsAt, sourceOf}
+use Rattle.records.proofs.Laws.{layouts-many}
+use Rattle.records.specs.List.{listOf, ListRead}
+use Rattle.records.specs.declared.list.LayoutList.{LayoutList}
+use Rattle.records.specs.declared.list.LayoutList.the-variants.{Whole, Broken}
 use Rattle.storing.specs.Put.{Put}
 use Rattle.storing.proofs.Put.{put-none, put-then, put-length, put-pastes}
-use Rattle.code.specs.declared.Record as Declared
-use Rattle.code.specs.Dump as Code
+use Rattle.dump.specs.Answers.{dumpMost, haltNumber, haltCarries, openedOf, openedReply, Opens, Ready, stepOf, haltedBy}
+use Rattle.dump.specs.declared.Halt.{Halt}
+use Rattle.dump.specs.declared.Halt.the-variants.{Malformed, Oversize}
+use Rattle.dump.specs.declared.Opened.{Opened}
+use Rattle.dump.specs.declared.Opened.the-variants.{Records, Barred}
+use Rattle.dump.specs.declared.Step.{Step}
+use Rattle.dump.specs.declared.Step.the-variants.{Record, End, Stop}
 
 halting : (halt : Halt) → 0 < haltNumber halt
 halting (Malformed offset) = omega arith
 halting Oversize = omega arith
 
 -- what stands at a place fixes the reply there
-pub located-reply : (bytes : List ℕ) (at : ℕ) {s : Code.Step} → s ≡ step bytes at → stepValues bytes s ≡ stepReply bytes at
+pub located-reply : (kind : Kind) (bytes : List ℕ) (at : ℕ) {s : Code.Step} → s ≡ step kind bytes at → stepValues bytes s ≡ stepReply kind bytes at
 unfolding stepReply
-located-reply bytes at e = ap (stepValues bytes) e
+located-reply kind bytes at e = ap (stepValues bytes) e
 
-module _ (bytes : List ℕ) (at : ℕ) {s : Step} (gives : stepOf s ≡ stepReply bytes at) where
-  pub gives-end : s ≡ End → step bytes at ≡ ended
-  gives-end e = told-ended bytes at (rw e at gives)
+-- an old dump, and a new one with the list that is read, opened
+pub old-opens : (bytes places : List ℕ) → length bytes ≤ dumpMost → length places ≡ 64 → Opens Old bytes places (Records 0 0)
+unfolding openingAs sourceOf
+old-opens bytes places h long = record { opens = sym (open-short Old bytes h); few = omega arith; long = long }
 
-  pub gives-stop : {halt : Halt} → s ≡ Stop halt → step bytes at ≡ stopped (haltNumber halt) (haltCarries halt)
-  gives-stop {halt} e = told-stopped bytes at (haltNumber halt) (haltCarries halt) (halting halt) (rw e at gives)
+module _ (bytes places : List ℕ) (h : length bytes ≤ dumpMost) {list : LayoutList} (r : ListRead bytes (layoutList bytes) places list) where
+  new-opening : opening New bytes ≡ behindList (listOf bytes places list)
+  unfolding openingAs
+  new-opening = open-short New bytes h ∙ ap behindList (sym (r .reads))
+
+  pub list-opens : {start count : ℕ} → list ≡ Whole start count → Opens New bytes places (Records start count)
+  unfolding behindList sourceOf
+  list-opens e = record { opens = sym (new-opening ∙ rw e); few = rw e at (r .few); long = r .long }
+
+  pub list-broken : list ≡ Broken → Opens New bytes places (Barred (Malformed 0))
+  unfolding behindList
+  list-broken e = record { opens = sym (new-opening ∙ rw e); few = tt; long = r .long }
+
+pub long-barred : (kind : Kind) (bytes places : List ℕ) → dumpMost < length bytes → length places ≡ 64 → Opens kind bytes places (Barred Oversize)
+long-barred kind bytes places h long = record { opens = sym (open-oversize kind bytes h); few = tt; long = long }
+
+-- a dump whose opening is told
+module _ {kind : Kind} {bytes places : List ℕ} {r : Opened} (o : Opens kind bytes places r) where
+  pub opened-ready : {start count : ℕ} → r ≡ Records start count → Ready kind bytes (take count places)
+  opened-ready {start} e = record { start = start; opens = sym (o .opens) ∙ ap (openedOf kind bytes places) e }
+
+  pub opened-few : {start count : ℕ} → r ≡ Records start count → count ≤ length places
+  opened-few e = omega (arith, o .long, rw e at (o .few))
+
+  -- the records begin where the opening says, within the dump, which is short enough
+  pub opened-start : {start count : ℕ} → r ≡ Records start count → (start ≡ startOf (opening kind bytes)) × (start ≤ length bytes) × (length bytes ≤ dumpMost)
+  unfolding startOf
+  opened-start {start} {count} e =
+      let source = sourceOf kind bytes (take count places) in
+      let q : opening kind bytes ≡ entered source start = sym (o .opens) ∙ ap (openedOf kind bytes places) e in
+      (rw q, entered-within kind bytes source start q, entered-short kind bytes source start q)
+
+  pub opened-barred : {halt : Halt} → r ≡ Barred halt → barred (haltNumber halt) (haltCarries halt) ≡ opening kind bytes
+  opened-barred e = ap (openedOf kind bytes places) (sym e) ∙ o .opens
+
+  pub barred-reply : {halt : Halt} → r ≡ Barred halt → (at : ℕ) → haltNumber halt ∷ haltCarries halt ≡ stepReply kind bytes at
+  unfolding stepReply stepValues
+  barred-reply {halt} e at = rw (step-barred kind bytes at (haltNumber halt) (haltCarries halt) (sym (opened-barred e)))
+
+-- the reply to opening a new dump
+pub new-opened : {bytes places : List ℕ} (r : Opened) → Opens New bytes places r → openedReply r ≡ openReply New bytes
+unfolding openReply openedBy sourceOf
+new-opened {bytes} {places} (Records start count) o =
+    let many : length (layoutsAt bytes (take count places)) ≡ count =
+    layouts-many bytes (take count places) ∙ length-take-le count places (omega (arith, o .few, o .long)) in
+    ap (λ n. 0 ∷ n ∷ start ∷ []) (sym many) ∙ ap openedBy (o .opens)
+new-opened (Barred halt) o = ap openedBy (o .opens)
+
+-- so the first record of a new dump stands within it
+pub first-within : (bytes : List ℕ) {start count : ℕ} → openedReply (Records start count) ≡ openReply New bytes → start ≤ length bytes
+unfolding openReply openedBy
+first-within bytes {start} {count} e = go (opening New bytes) refl (open-barring New bytes) e
+  where
+    go : (o : Code.Opening) → opening New bytes ≡ o → Barring o → openedReply (Records start count) ≡ openedBy o → start ≤ length bytes
+    go (barred k carried) q b e = let z : 0 ≡ k = cc in absurd (omega (arith, b .0))
+    go (entered source first) q b e = let z : start ≡ first = cc in omega (arith, entered-within New bytes source first q)
+
+-- in a dump that is opened a step stands at the end or at a record
+module _ {kind : Kind} {bytes places : List ℕ} (ready : Ready kind bytes places) (at : ℕ) where
+  pub ready-ended : length bytes ≤ at → step kind bytes at ≡ ended
+  ready-ended h = step-entered kind bytes at _ _ (ready .opens) ∙ step-ended _ bytes at h
+
+  pub ready-inside : at < length bytes → let source = sourceOf kind bytes places in
+      step kind bytes at ≡ Code.recordAt source bytes at (readNumbers (suc (Code.headLength source)) bytes at)
+  ready-inside h = step-entered kind bytes at _ _ (ready .opens) ∙ step-inside _ bytes at h
+
+module _ (kind : Kind) (bytes : List ℕ) (at : ℕ) {s : Step} (gives : stepOf s ≡ stepReply kind bytes at) where
+  pub gives-end : s ≡ End → step kind bytes at ≡ ended
+  gives-end e = told-ended kind bytes at (rw e at gives)
+
+  pub gives-stop : {halt : Halt} → s ≡ Stop halt → step kind bytes at ≡ stopped (haltNumber halt) (haltCarries halt)
+  gives-stop {halt} e = told-stopped kind bytes at (haltNumber halt) (haltCarries halt) (halting halt) (rw e at gives)
 
   module _ {r : Declared.Record} {reading : Reading} (e : s ≡ Record r reading) where
-    pub gives-record : (step bytes at ≡ taken r) × (outcome bytes r ≡ readingOf reading)
-    gives-record = told-record bytes at r (readingOf reading) (rw e at gives)
+    pub gives-record : (step kind bytes at ≡ taken r) × (outcome bytes r ≡ readingOf reading)
+    gives-record = told-record kind bytes at r (readingOf reading) (rw e at gives)
 
     -- it ends further on, within the dump
     pub record-further : (at < r .start + r .count) × (r .start + r .count ≤ dumpMost)
     record-further =
-        let f = step-forward bytes at r (gives-record .0) in
+        let f = step-forward kind bytes at r (gives-record .0) in
         (f .1, omega arith)
 
--- no row is made of a dump that is too long
-no-rows : (bytes : List ℕ) (at : ℕ) → dumpMost < length bytes → (fuel : ℕ) → rowsOf bytes (walkFrom fuel bytes at) ≡ []
+-- no row is made of a dump that is refused as a whole
+no-rows : (kind : Kind) (bytes : List ℕ) (at k : ℕ) (carried : List ℕ) → opening kind bytes ≡ barred k carried → (fuel : ℕ) →
+    rowsOf kind bytes (walkFrom fuel kind bytes at) ≡ []
 unfolding rowsOf walkFrom
-no-rows bytes at h zero = refl
-no-rows bytes at h (suc fuel) = rw (walk-stopped fuel bytes at 8 [] (step-oversize bytes at h))
+no-rows kind bytes at k carried e zero = refl
+no-rows kind bytes at k carried e (suc fuel) = rw (walk-stopped kind bytes fuel at k carried (step-barred kind bytes at k carried e))
+
+-- the numbers of a row are as many as it has
+pub row-many : (kind : Kind) (r : Declared.Record) (reading : List ℕ) → length (rowNumbers kind r ++ filled 4 reading) ≡ rowLength kind
+unfolding rowNumbers recordNumbers
+row-many Old r reading = omega (arith, filled-length 4 reading)
+row-many New r reading = omega (arith, filled-length 4 reading)
+
+-- a row has ten to twelve numbers
+pub row-some : (kind : Kind) → (10 ≤ rowLength kind) × (rowLength kind ≤ 12)
+row-some Old = (omega arith, omega arith)
+row-some New = (omega arith, omega arith)
+
+-- rows that fit, and those left
+few-left : (kind : Kind) (long done : ℕ) → long - rowLength kind * done < rowLength kind → long / rowLength kind - done ≡ 0
+few-left Old long done h = omega arith
+few-left New long done h = omega arith
+
+more-left : (kind : Kind) (long done : ℕ) → rowLength kind ≤ long - rowLength kind * done → long / rowLength kind - done ≡ suc (long / rowLength kind - suc done)
+more-left Old long done h = omega arith
+more-left New long done h = omega arith
+
+pub row-next : (kind : Kind) (done : ℕ) → rowLength kind * done < rowLength kind * (done + 1)
+row-next Old done = omega arith
+row-next New done = omega arith
+
+next-row : (kind : Kind) (done : ℕ) → rowLength kind * done + rowLength kind ≡ rowLength kind * (done + 1)
+next-row Old done = omega arith
+next-row New done = omega arith
 
 -- the rows before are walked into from place `at` on: `done` rows are filled, up to `place`, and the next step is due at `next`
-pub record Walking (bytes : List ℕ) (at : ℕ) (before rows : List ℕ) (next done place : ℕ) : Type 0 where
-  pub short : length bytes ≤ dumpMost
-  pub placed : place ≡ rowLength * done
+pub record Walking (kind : Kind) (bytes : List ℕ) (at : ℕ) (before rows : List ℕ) (next done place : ℕ) : Type 0 where
+  pub placed : place ≡ rowLength kind * done
   pub room : place ≤ length before
   pub same : length rows ≡ length before
   pub filling : List ℕ
   pub stored : Put before rows 0 filling place
-  pub made : rowsOf bytes (walkFrom (length before / rowLength) bytes at) ≡ filling ++ rowsOf bytes (walkFrom (length before / rowLength - done) bytes next)
-  pub closes : closing at 0 (walkFrom (length before / rowLength) bytes at) ≡ closing next done (walkFrom (length before / rowLength - done) bytes next)
+  pub made : rowsOf kind bytes (rowSteps kind bytes at before) ≡
+      filling ++ rowsOf kind bytes (walkFrom (length before / rowLength kind - done) kind bytes next)
+  pub closes : closing at 0 (rowSteps kind bytes at before) ≡ closing next done (walkFrom (length before / rowLength kind - done) kind bytes next)
+
+-- no more rows than their numbers
+pub walking-done : {kind : Kind} {bytes : List ℕ} {at : ℕ} {before rows : List ℕ} {next done place : ℕ} → Walking kind bytes at before rows next done place → 10 * done ≤ length before
+walking-done {kind = Old} w = omega (arith, w .placed, w .room)
+walking-done {kind = New} w = omega (arith, w .placed, w .room)
 
 -- what a walk answers, and what it leaves in the rows
-abbrev pub Walks : List ℕ → ℕ → List ℕ → List ℕ → List ℕ → Type 0
-Walks bytes at before reply rows = (reply ≡ walkReply bytes at before) × (rows ≡ walkLeaves bytes at before)
+abbrev pub Walks : Kind → List ℕ → ℕ → List ℕ → List ℕ → List ℕ → Type 0
+Walks kind bytes at before reply rows = (reply ≡ walkReply kind bytes at before) × (rows ≡ walkLeaves kind bytes at before)
 
-pub walking-begin : (bytes : List ℕ) (at : ℕ) (rows : List ℕ) → length bytes ≤ dumpMost → Walking bytes at rows rows at 0 0
-walking-begin bytes at rows short = record {
-  short = short;
-  placed = refl;
+pub walking-begin : (kind : Kind) (bytes : List ℕ) (at : ℕ) (rows : List ℕ) → Walking kind bytes at rows rows at 0 0
+walking-begin kind bytes at rows = record {
+  placed = none kind;
   room = omega arith;
   same = refl;
   filling = [];
@@ -83,60 +200,68 @@ walking-begin bytes at rows short = record {
   made = rw sub-zero;
   closes = rw sub-zero;
 }
+  where
+    none : (kind : Kind) → 0 ≡ rowLength kind * 0
+    none Old = refl
+    none New = refl
 
-module _ {bytes : List ℕ} {at : ℕ} {before rows : List ℕ} {next done place : ℕ} (w : Walking bytes at before rows next done place) where
-  walking-ends : {reply : List ℕ} → rowsOf bytes (walkFrom (length before / rowLength - done) bytes next) ≡ [] →
-      reply ≡ closing next done (walkFrom (length before / rowLength - done) bytes next) → Walks bytes at before reply rows
-  unfolding walkReply walkLeaves
+module _ {kind : Kind} {bytes : List ℕ} {at : ℕ} {before rows : List ℕ} {next done place : ℕ} (w : Walking kind bytes at before rows next done place)
+    {places : List ℕ} (ready : Ready kind bytes places) where
+  abbrev rest : List Code.Step
+  rest = walkFrom (length before / rowLength kind - done) kind bytes next
+
+  walking-ends : {reply : List ℕ} → rowsOf kind bytes rest ≡ [] → reply ≡ closing next done rest → Walks kind bytes at before reply rows
+  unfolding walkReply walkLeaves walkOn
   walking-ends none e =
-      let all : rowsOf bytes (walkFrom (length before / rowLength) bytes at) ≡ w .filling = rw (none, append-nil) at (w .made) in
+      let all : rowsOf kind bytes (rowSteps kind bytes at before) ≡ w .filling = rw (none, append-nil) at (w .made) in
       let long : place ≡ length (w .filling) = omega (arith, w .stored .ends) in
-      (rw (le-ltb dumpMost (length bytes) (w .short)) (e ∙ sym (w .closes)), rw (all, ← long) (put-pastes (w .stored) (w .room)))
+      (rw (ready .opens) (e ∙ sym (w .closes)), rw (all, ← long) (put-pastes (w .stored) (w .room)))
 
   -- no room for another row
-  pub walking-full : {reply : List ℕ} → length before - place < rowLength → reply ≡ 0 ∷ 0 ∷ done ∷ next ∷ 0 ∷ [] → Walks bytes at before reply rows
+  pub walking-full : {reply : List ℕ} → length before - place < rowLength kind → reply ≡ 0 ∷ 0 ∷ done ∷ next ∷ 0 ∷ [] → Walks kind bytes at before reply rows
   unfolding walkFrom rowsOf closing
   walking-full h e =
-      let none : length before / rowLength - done ≡ 0 = omega (arith, w .placed) in
+      let none : length before / rowLength kind - done ≡ 0 = few-left kind (length before) done (rw (w .placed) at h) in
       walking-ends (rw none) (rw none e)
 
-  module _ (free : rowLength ≤ length before - place) where
-    more : length before / rowLength - done ≡ suc (length before / rowLength - suc done)
-    more = omega (arith, w .placed)
+  module _ (free : rowLength kind ≤ length before - place) where
+    more : length before / rowLength kind - done ≡ suc (length before / rowLength kind - suc done)
+    more = more-left kind (length before) done (rw (w .placed) at free)
 
-    module _ {s : Step} (gives : stepOf s ≡ stepReply bytes next) where
+    module _ {s : Step} (gives : stepOf s ≡ stepReply kind bytes next) where
       pub walking-next : {r : Declared.Record} {reading : Reading} {rows′ : List ℕ} {place′ : ℕ} → s ≡ Record r reading →
-          Put rows rows′ place (recordNumbers r ++ filled 4 (readingOf reading)) place′ → Walking bytes at before rows′ (r .start + r .count) (done + 1) place′
-      unfolding rowsOf closing recordNumbers
-      walking-next {r} {reading} e p =
-          let told = gives-record bytes next gives e in
-          let turn = walk-taken (length before / rowLength - suc done) bytes next r (told .0) in
-          let four = filled-length 4 (readingOf reading) in
+          Put rows rows′ place (rowNumbers kind r ++ filled 4 (readingOf reading)) place′ → Walking kind bytes at before rows′ (r .start + r .count) (done + 1) place′
+      unfolding rowsOf closing
+      walking-next {r} {reading} {rows′} {place′} e p =
+          let told = gives-record kind bytes next gives e in
+          let turn = walk-taken kind bytes (length before / rowLength kind - suc done) next r (told .0) in
+          let ends : place′ ≡ place + rowLength kind = p .ends ∙ ap (λ n. place + n) (row-many kind r (readingOf reading)) in
           record {
-            short = w .short;
-            placed = omega (arith, w .placed, p .ends);
-            room = omega (arith, p .ends);
+            placed = ends ∙ rw (w .placed) (next-row kind done);
+            room = omega arith;
             same = put-length p ∙ w .same;
-            filling = w .filling ++ (recordNumbers r ++ filled 4 (readingOf reading));
+            filling = w .filling ++ (rowNumbers kind r ++ filled 4 (readingOf reading));
             stored = put-then (w .stored) p;
             made = rw (add-one done, append-assoc) (rw (more, turn, told .1) at (w .made));
             closes = rw (add-one done) (rw (more, turn) at (w .closes));
           }
 
-      pub walking-end : {reply : List ℕ} → s ≡ End → reply ≡ 0 ∷ 0 ∷ done ∷ next ∷ 1 ∷ [] → Walks bytes at before reply rows
+      pub walking-end : {reply : List ℕ} → s ≡ End → reply ≡ 0 ∷ 0 ∷ done ∷ next ∷ 1 ∷ [] → Walks kind bytes at before reply rows
       unfolding rowsOf closing
       walking-end e r =
-          let turn = walk-ended (length before / rowLength - suc done) bytes next (gives-end bytes next gives e) in
+          let turn = walk-ended kind bytes (length before / rowLength kind - suc done) next (gives-end kind bytes next gives e) in
           walking-ends (rw (more, turn)) (rw (more, turn) r)
 
-      pub walking-stop : {reply : List ℕ} {halt : Halt} → s ≡ Stop halt → reply ≡ haltedBy next done halt → Walks bytes at before reply rows
+      pub walking-stop : {reply : List ℕ} {halt : Halt} → s ≡ Stop halt → reply ≡ haltedBy next done halt → Walks kind bytes at before reply rows
       unfolding rowsOf closing
       walking-stop {halt = halt} e r =
-          let turn = walk-stopped (length before / rowLength - suc done) bytes next (haltNumber halt) (haltCarries halt) (gives-stop bytes next gives e) in
+          let told = gives-stop kind bytes next gives e in
+          let turn = walk-stopped kind bytes (length before / rowLength kind - suc done) next (haltNumber halt) (haltCarries halt) told in
           walking-ends (rw (more, turn)) (rw (more, turn) r)
 
--- a dump that is too long
-pub walk-refused : (bytes : List ℕ) (at : ℕ) (rows : List ℕ) {reply : List ℕ} → dumpMost < length bytes → reply ≡ 8 ∷ 0 ∷ 0 ∷ 0 ∷ 0 ∷ [] →
-    Walks bytes at rows reply rows
-unfolding walkReply walkLeaves
-walk-refused bytes at rows h r = (rw (lt-ltb dumpMost (length bytes) h) r, rw (no-rows bytes at h (length rows / rowLength)))
+-- a dump that is refused as a whole
+pub walk-refused : (kind : Kind) (bytes : List ℕ) (at : ℕ) (rows : List ℕ) {reply : List ℕ} (halt : Halt) →
+    barred (haltNumber halt) (haltCarries halt) ≡ opening kind bytes → reply ≡ haltedBy 0 0 halt → Walks kind bytes at rows reply rows
+unfolding walkReply walkLeaves walkOn
+walk-refused kind bytes at rows halt e r =
+    (rw (← e) r, rw (no-rows kind bytes at (haltNumber halt) (haltCarries halt) (sym e) (length rows / rowLength kind)))

@@ -1,56 +1,81 @@
-// Document 01, "Dumps": export, one step of the walk, and the walk.
+// Documents 01 and 02, dumps of both kinds: one step of the walk, and the walk.
+pub mod export;
+
+use code::Kind;
 use code::Record;
 use code::Shape;
 use field::Reading;
 use layout::Plan;
 use records::Head;
-use storing::Made;
+use records::list::LayoutList;
 ghost use mathlib.Core.Path.{_≡_};
 ghost use mathlib.Core.Bool.{true};
 ghost use mathlib.Core.List.{[], _∷_, _++_};
 ghost use Prim.Native.Nat.{_+_, _≤_};
-ghost use lib.ListN.{length, replicate};
+ghost use lib.ListN.{length, take, replicate};
+ghost use Rattle.code.specs.declared.Kind.the-variants.{New};
 ghost use Rattle.code.specs.Calls.{filled};
-ghost use Rattle.code.specs.Dump.{exportReply, exportLeaves, step, taken, stepValues, stepReply, recordNumbers, walkReply, walkLeaves};
+ghost use Rattle.code.specs.Dump.{openReply, step, taken, stepValues, stepReply, rowNumbers, rowLength, walkReply, walkLeaves};
 ghost use Rattle.storing.specs.Put.{Put};
-ghost use Rattle.storing.specs.Answers.{madeOf};
 ghost use Rattle.layout.specs.Plan.{Planned};
 ghost use Rattle.field.specs.Answers.{readingOf};
-ghost use Rattle.dump.specs.Answers.{rowLength, locatedOf, stepOf, walkedOf, haltedBy};
+ghost use Rattle.dump.specs.Answers.{openedReply, locatedOf, stepOf, Opens, Ready, walkedOf, haltedBy};
 
 // The most bytes of a dump.
 pub const DUMP_MOST: usize = 65536;
 
-// The least serial that is refused.
-const SERIAL_END: u64 = 0x8000_0000_0000_0000;
-
-// Stores the record of a field at the front of `out`.
-pub fn export(serial: u64, m: u64, t: u64, v: u64, cells: &[u8], out: &mut [u8]) -> Made
-    ensures { λ r. ⌜ madeOf r ≡ exportReply serial m t v (now (cells .entry)) (now (out .entry)) ⌝ }
-    ensures { λ r. ⌜ now (out .exit) ≡ exportLeaves serial m t v (now (cells .entry)) (now (out .entry)) ⌝ }
-{
-    if SERIAL_END <= serial {
-        return Made::Refused(10);
-    }
-    let s = Shape { form: 0, m, t, v };
-    let mut h = [0u64; 16];
-    let refusal = layout::lay_into(&mut h, s, 256);
-    if refusal != 0 {
-        return Made::Refused(refusal);
-    }
-    if !cells::is_sound(cells, layout::order(s), m as usize, h[0] as usize) {
-        return Made::Refused(3);
-    }
-    if out.len() < records::record_length(serial, m, t, v, cells.len()) {
-        return Made::Refused(9);
-    }
-    Made::Stored(records::put_record(out, serial, m, t, v, cells))
-}
+// The most layouts of a new dump.
+const LAYOUTS_MOST: usize = records::list::LAYOUTS_MOST;
 
 // Why a walk stops before the end: a malformed record, whose first byte stands at the offset, or more bytes than a dump may have.
 pub enum Halt {
     Malformed { offset: usize },
     Oversize,
+}
+
+// A dump at its front: where its records begin, behind so many layouts, or why it has none.
+pub enum Opened {
+    Records { start: usize, layouts: usize },
+    Barred(Halt),
+}
+
+// Opens a dump and keeps the places of its layouts.
+pub fn open(dump: &[u8], kind: Kind, places: &mut [u16; LAYOUTS_MOST]) -> Opened
+    requires { ⌜ length (now places) ≡ 64 ⌝ }
+    ensures { λ r. ⌜ Opens kind (now (dump .entry)) (now (places .exit)) r ⌝ }
+{
+    if DUMP_MOST < dump.len() {
+        return Opened::Barred(Halt::Oversize);
+    }
+    match kind {
+        Kind::Old => Opened::Records {
+            start: 0,
+            layouts: 0,
+        },
+        Kind::New => open_list(dump, places),
+    }
+}
+
+// Opens a new dump, behind its layout list.
+fn open_list(dump: &[u8], places: &mut [u16; LAYOUTS_MOST]) -> Opened
+    requires { ⌜ (length (now dump) ≤ 65536) × (length (now places) ≡ 64) ⌝ }
+    ensures { λ r. ⌜ Opens New (now (dump .entry)) (now (places .exit)) r ⌝ }
+{
+    match records::list::read_list(dump, places) {
+        LayoutList::Whole { start, count } => Opened::Records {
+            start,
+            layouts: count,
+        },
+        LayoutList::Broken => Opened::Barred(Halt::Malformed { offset: 0 }),
+    }
+}
+
+// Opens a new dump for its reader: the layouts that it lists, and the place of its first record.
+pub fn open_new(dump: &[u8]) -> Opened
+    ensures { λ r. ⌜ openedReply r ≡ openReply New (now (dump .entry)) ⌝ }
+{
+    let mut places = [0u16; LAYOUTS_MOST];
+    open(dump, Kind::New, &mut places)
 }
 
 pub enum Step {
@@ -61,39 +86,49 @@ pub enum Step {
 }
 
 // What stands at a place: a record that is not read yet, the end, or why the walk stops.
-enum Located {
+pub enum Located {
     Record(Record),
     End,
     Stop(Halt),
 }
 
-fn locate(dump: &[u8], at: usize) -> Located
-    ensures { λ r. ⌜ locatedOf r ≡ step (now (dump .entry)) at ⌝ }
+pub fn locate(dump: &[u8], kind: Kind, places: &[u16], at: usize) -> Located
+    requires { ⌜ Ready kind (now dump) (now places) ⌝ }
+    ensures { λ r. ⌜ locatedOf r ≡ step kind (now (dump .entry)) at ⌝ }
 {
-    if DUMP_MOST < dump.len() {
-        return Located::Stop(Halt::Oversize);
-    }
     if dump.len() <= at {
         return Located::End;
     }
-    match records::read_head(dump, at) {
+    match records::read_head(dump, kind, places, at) {
         Head::Whole(record) => Located::Record(record),
         Head::Malformed { offset } => Located::Stop(Halt::Malformed { offset }),
     }
 }
 
-// The step at a place, by itself.
-pub fn step_at(dump: &[u8], at: usize) -> Step
-    ensures { λ r. ⌜ stepOf r ≡ stepReply (now (dump .entry)) at ⌝ }
+// The step at a place of a dump that is opened.
+fn step_in(dump: &[u8], kind: Kind, places: &[u16], at: usize) -> Step
+    requires { ⌜ Ready kind (now dump) (now places) ⌝ }
+    ensures { λ r. ⌜ stepOf r ≡ stepReply kind (now (dump .entry)) at ⌝ }
 {
-    match locate(dump, at) {
+    match locate(dump, kind, places, at) {
         Located::Record(record) => {
             let cells = records::part(dump, record.start, record.count);
-            let outcome = field::read(records::shape_of(record), cells);
+            let outcome = field::read(record.shape, cells);
             Step::Record { record, outcome }
         }
         Located::End => Step::End,
         Located::Stop(halt) => Step::Stop(halt),
+    }
+}
+
+// The step at a place, by itself.
+pub fn step_at(dump: &[u8], kind: Kind, at: usize) -> Step
+    ensures { λ r. ⌜ stepOf r ≡ stepReply kind (now (dump .entry)) at ⌝ }
+{
+    let mut places = [0u16; LAYOUTS_MOST];
+    match open(dump, kind, &mut places) {
+        Opened::Records { start, layouts } => step_in(dump, kind, &places[0..layouts], at),
+        Opened::Barred(halt) => Step::Stop(halt),
     }
 }
 
@@ -148,18 +183,25 @@ fn step_record(dump: &[u8], h: &mut [u64; 16], kept: Plan, record: Record) -> St
     requires { ⌜ Planned kept (now h) ⌝ }
     ensures { λ r. ⌜ (stepOf (r .step) ≡ stepValues (now (dump .entry)) (taken «record»)) × Planned (r .kept) (now (h .exit)) ⌝ }
 {
-    let plan = renew(h, kept, records::shape_of(record));
+    let plan = renew(h, kept, record.shape);
     let outcome = field::read_by(plan, h, records::part(dump, record.start, record.count));
     let step = Step::Record { record, outcome };
     Stepped { step, kept: plan }
 }
 
-// The step at a place, with what is kept of the steps before; its counts stand in h.
-pub fn step_kept(dump: &[u8], at: usize, h: &mut [u64; 16], kept: Plan) -> Stepped
-    requires { ⌜ Planned kept (now h) ⌝ }
-    ensures { λ r. ⌜ (stepOf (r .step) ≡ stepReply (now (dump .entry)) at) × Planned (r .kept) (now (h .exit)) ⌝ }
+// The step at a place of a dump that is opened, with what is kept of the steps before; its counts stand in h.
+pub fn step_kept(
+    dump: &[u8],
+    kind: Kind,
+    places: &[u16],
+    at: usize,
+    h: &mut [u64; 16],
+    kept: Plan,
+) -> Stepped
+    requires { ⌜ Ready kind (now dump) (now places) × Planned kept (now h) ⌝ }
+    ensures { λ r. ⌜ (stepOf (r .step) ≡ stepReply kind (now (dump .entry)) at) × Planned (r .kept) (now (h .exit)) ⌝ }
 {
-    match locate(dump, at) {
+    match locate(dump, kind, places, at) {
         Located::Record(record) => step_record(dump, h, kept, record),
         Located::End => {
             let step = Step::End;
@@ -217,46 +259,98 @@ fn pause_walk(next: u64, rows: u64, ended: u64) -> Walked
     }
 }
 
+// The most numbers of a row.
+const ROW_MOST: usize = 12;
+
 // The numbers of a row.
-pub const ROW: usize = 10;
+pub fn row_length(kind: Kind) -> usize
+    ensures { λ r. ⌜ r ≡ rowLength kind ⌝ }
+{
+    match kind {
+        Kind::Old => 10,
+        Kind::New => ROW_MOST,
+    }
+}
 
 // A record in the rows of a walk.
 struct Row {
-    numbers: [u64; ROW],
+    numbers: [u64; ROW_MOST],
 }
 
-fn make_row(record: Record, outcome: Reading) -> Row
-    ensures { λ r. ⌜ r .numbers ≡ recordNumbers «record» ++ filled 4 (readingOf outcome) ⌝ }
+// The row of a record by the numbers of its reading, 0 where that lacks one.
+fn fill_row(
+    kind: Kind,
+    record: Record,
+    refused: u64,
+    generation: u64,
+    number: u64,
+    left: u64,
+) -> Row
+    ensures { λ r. ⌜ take (rowLength kind) (r .numbers) ≡ rowNumbers kind «record» ++ (refused ∷ generation ∷ number ∷ left ∷ []) ⌝ }
 {
     let serial = record.serial;
-    let m = record.m;
-    let t = record.t;
-    let v = record.v;
+    let s = record.shape;
     let start = record.start as u64;
     let count = record.count as u64;
-    match outcome {
-        Reading::Read {
-            generation,
-            number,
-            left,
-        } => {
-            let numbers = [serial, m, t, v, start, count, 0, generation, number, left];
+    match kind {
+        Kind::Old => {
+            let numbers = [
+                serial,
+                s.m,
+                s.t,
+                s.v,
+                start,
+                count,
+                refused,
+                generation,
+                number,
+                left,
+                0,
+                0,
+            ];
             Row { numbers }
         }
-        Reading::Refused(refusal) => {
-            let numbers = [serial, m, t, v, start, count, refusal, 0, 0, 0];
+        Kind::New => {
+            let layout = record.layout;
+            let numbers = [
+                serial,
+                layout,
+                s.form,
+                s.m,
+                s.t,
+                s.v,
+                start,
+                count,
+                refused,
+                generation,
+                number,
+                left,
+            ];
             Row { numbers }
         }
     }
 }
 
-fn put_row(rows: &mut [u64], place: usize, row: Row) -> usize
-    requires { ⌜ place + rowLength ≤ length (now rows) ⌝ }
-    ensures { λ r. ⌜ Put (now (rows .entry)) (now (rows .exit)) place (row .numbers) r ⌝ }
+fn make_row(kind: Kind, record: Record, outcome: Reading) -> Row
+    ensures { λ r. ⌜ take (rowLength kind) (r .numbers) ≡ rowNumbers kind «record» ++ filled 4 (readingOf outcome) ⌝ }
+{
+    match outcome {
+        Reading::Read {
+            generation,
+            number,
+            left,
+        } => fill_row(kind, record, 0, generation, number, left),
+        Reading::Refused(refusal) => fill_row(kind, record, refusal, 0, 0, 0),
+    }
+}
+
+fn put_row(rows: &mut [u64], place: usize, row: Row, width: usize) -> usize
+    requires { ⌜ (width ≤ 12) × (place + width ≤ length (now rows)) ⌝ }
+    ensures { λ r. ⌜ Put (now (rows .entry)) (now (rows .exit)) place (take width (row .numbers)) r ⌝ }
 {
     let numbers = row.numbers;
     let mut i = 0;
-    while i < ROW {
+    while i < width {
         rows[place + i] = numbers[i];
         i += 1;
     }
@@ -264,26 +358,25 @@ fn put_row(rows: &mut [u64], place: usize, row: Row) -> usize
 }
 
 // Fills a row for each record from a place on, as long as a whole row fits.
-pub fn walk(dump: &[u8], at: usize, rows: &mut [u64]) -> Walked
-    ensures { λ r. ⌜ walkedOf r ≡ walkReply (now (dump .entry)) at (now (rows .entry)) ⌝ }
-    ensures { λ r. ⌜ now (rows .exit) ≡ walkLeaves (now (dump .entry)) at (now (rows .entry)) ⌝ }
+fn fill_rows(dump: &[u8], kind: Kind, places: &[u16], at: usize, rows: &mut [u64]) -> Walked
+    requires { ⌜ Ready kind (now dump) (now places) ⌝ }
+    ensures { λ r. ⌜ walkedOf r ≡ walkReply kind (now (dump .entry)) at (now (rows .entry)) ⌝ }
+    ensures { λ r. ⌜ now (rows .exit) ≡ walkLeaves kind (now (dump .entry)) at (now (rows .entry)) ⌝ }
 {
-    if DUMP_MOST < dump.len() {
-        return halt_walk(Halt::Oversize, 0, 0);
-    }
+    let width = row_length(kind);
     let mut h = [0u64; 16];
     let mut kept = keep_none();
     let mut next = at;
     let mut done: u64 = 0;
     let mut place = 0;
-    while ROW <= rows.len() - place {
-        let s = step_kept(dump, next, &mut h, kept);
+    while width <= rows.len() - place {
+        let s = step_kept(dump, kind, places, next, &mut h, kept);
         let step = s.step;
         kept = s.kept;
         match step {
             Step::Record { record, outcome } => {
-                let row = make_row(record, outcome);
-                place = put_row(rows, place, row);
+                let row = make_row(kind, record, outcome);
+                place = put_row(rows, place, row, width);
                 next = record.start + record.count;
                 done += 1;
             }
@@ -296,4 +389,16 @@ pub fn walk(dump: &[u8], at: usize, rows: &mut [u64]) -> Walked
         }
     }
     pause_walk(next as u64, done, 0)
+}
+
+// The walk from a place on, as far as the rows go.
+pub fn walk(dump: &[u8], kind: Kind, at: usize, rows: &mut [u64]) -> Walked
+    ensures { λ r. ⌜ walkedOf r ≡ walkReply kind (now (dump .entry)) at (now (rows .entry)) ⌝ }
+    ensures { λ r. ⌜ now (rows .exit) ≡ walkLeaves kind (now (dump .entry)) at (now (rows .entry)) ⌝ }
+{
+    let mut places = [0u16; LAYOUTS_MOST];
+    match open(dump, kind, &mut places) {
+        Opened::Records { start, layouts } => fill_rows(dump, kind, &places[0..layouts], at, rows),
+        Opened::Barred(halt) => halt_walk(halt, 0, 0),
+    }
 }

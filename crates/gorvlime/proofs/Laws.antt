@@ -1,59 +1,68 @@
--- The fields of a step's reply, case by case.
+-- The fields of replies, case by case.
 use mathlib.Core.Path.{_≡_, refl}
 use mathlib.Core.List.{List, [], _∷_, _++_}
-use mathlib.Core.Bool.{Bool, true, false, cond, _&&_}
-use Prim.Native.Nat.{ℕ, _+_, _^_, _≤_, _<_}
-use lib.Dec.{ltb}
+use Prim.Native.Nat.{ℕ, zero, suc, _+_, _^_, _≤_, _<_}
 use native.Mathlib.Omega.{arith}
 use lib.ListN.{length, replicate}
-use borrow.Author.Tests.{lt-ltb}
+use borrow.Author.Tests.{lt-ltb, ne-eqb}
+use Rattle.code.specs.declared.Kind.{Kind}
 use Rattle.code.specs.declared.Record.{Record}
-use Rattle.code.specs.Calls.{filled, refusal}
-use Rattle.code.specs.Dump.{Numbers, cut, numbers, readNumbers, Step, taken, ended, stopped, broken, stepRefusal, found, stepOn, step, recordNumbers}
-use Rattle.code.specs.Dump.{stepValues, stepReply}
+use Rattle.code.specs.Calls.{filled}
+use Rattle.code.specs.Dump.{Step, taken, ended, stopped, step, recordNumbers, stepValues, stepReply}
+use Rattle.code.proofs.Steps.{Refusing, step-refusing}
 use Rattle.code.proofs.Walk.{step-forward}
-use Rattle.dump.specs.Answers.{dumpMost}
-use Rattle.gorvlime.specs.Fields.{cellsEnd, foundFields}
+use Rattle.dump.specs.Answers.{haltOf}
+use Rattle.dump.specs.declared.Halt.{Halt}
+use Rattle.dump.specs.declared.Halt.the-variants.{Malformed, Oversize}
+use Rattle.gorvlime.specs.Fields.{offsetFields, newStepFields, cellsEnd, newFoundFields}
+use Rattle.gorvlime.specs.declared.c.NewStepAnswer.{NewStepAnswer}
 
 pub found-record : (r : Record) (reading fields : List ℕ) → fields ≡ filled 4 reading →
-    0 ∷ 0 ∷ 1 ∷ r .serial ∷ r .m ∷ r .t ∷ r .v ∷ r .start ∷ r .count ∷ (r .start + r .count) ∷ fields
-    ≡ foundFields (0 ∷ (recordNumbers r ++ reading))
-unfolding foundFields recordNumbers cellsEnd
+    0 ∷ 0 ∷ 1 ∷ r .serial ∷ r .layout ∷ r .shape .form ∷ r .shape .m ∷ r .shape .t ∷ r .shape .v ∷ r .start ∷ r .count ∷ (r .start + r .count) ∷ fields
+    ≡ newFoundFields (0 ∷ (recordNumbers r ++ reading))
+unfolding newFoundFields recordNumbers cellsEnd
 found-record r reading fields q = rw (lt-ltb 2 (length (0 ∷ (recordNumbers r ++ reading))) (omega arith), q)
 
-pub found-none : (k : ℕ) → k ∷ 0 ∷ replicate 12 0 ≡ foundFields (k ∷ [])
-unfolding foundFields filled
+pub found-none : (k : ℕ) → k ∷ 0 ∷ replicate 14 0 ≡ newFoundFields (k ∷ [])
+unfolding newFoundFields filled
 found-none k = refl
 
-pub found-offset : (k offset : ℕ) → k ∷ offset ∷ replicate 12 0 ≡ foundFields (k ∷ offset ∷ [])
-unfolding foundFields filled
+pub found-offset : (k offset : ℕ) → k ∷ offset ∷ replicate 14 0 ≡ newFoundFields (k ∷ offset ∷ [])
+unfolding newFoundFields filled
 found-offset k offset = refl
 
--- a stop carries one number at most
-Short : Step → Type 0
-Short (taken r) = Unit {0}
-Short ended = Unit {0}
-Short (stopped k carried) = length carried ≤ 1
-
-step-short : (bytes : List ℕ) (at : ℕ) → Short (step bytes at)
-unfolding step stepRefusal refusal stepOn found Short
-step-short bytes at = go (ltb dumpMost (length bytes)) (ltb at (length bytes)) (broken bytes (readNumbers 5 bytes at)) (readNumbers 5 bytes at)
-  where
-    go : (a b c : Bool) (ns : Numbers) → Short (stepOn (refusal ((8 ∷ [], a) ∷ (7 ∷ at ∷ [], b && c) ∷ [])) (cond b (found ns) ended))
-    go true b c ns = omega arith
-    go false false c ns = tt
-    go false true true ns = omega arith
-    go false true false cut = tt
-    go false true false (numbers xs start) = tt
-
 -- a record's cells end within the dump
-pub step-fits : (bytes : List ℕ) (at : ℕ) → cellsEnd (stepReply bytes at) < 2 ^ 64
-unfolding stepReply stepValues recordNumbers cellsEnd Short
-step-fits bytes at = go (step bytes at) refl (step-short bytes at)
+pub step-fits : (kind : Kind) (bytes : List ℕ) (at : ℕ) → cellsEnd (stepReply kind bytes at) < 2 ^ 64
+unfolding stepReply stepValues recordNumbers cellsEnd
+step-fits kind bytes at = go (step kind bytes at) refl (step-refusing kind bytes at)
   where
-    go : (s : Step) → step bytes at ≡ s → Short s → cellsEnd (stepValues bytes s) < 2 ^ 64
-    go (taken r) q h = omega (arith, step-forward bytes at r q)
+    go : (s : Step) → step kind bytes at ≡ s → Refusing s → cellsEnd (stepValues bytes s) < 2 ^ 64
+    go (taken r) q h = omega (arith, step-forward kind bytes at r q)
     go ended q h = omega arith
     go (stopped k []) q h = omega arith
     go (stopped k (x ∷ [])) q h = omega arith
-    go (stopped k (x ∷ y ∷ xs)) q h = absurd (omega arith)
+    go (stopped k (x ∷ y ∷ xs)) q h = absurd (omega (arith, h .1))
+
+-- an answer that is accepted
+pub opened-fields : (layouts first : ℕ) → 0 ∷ 0 ∷ layouts ∷ first ∷ [] ≡ offsetFields 4 (0 ∷ layouts ∷ first ∷ [])
+unfolding offsetFields filled
+opened-fields layouts first = refl
+
+pub moved-fields : (n : ℕ) → 0 ∷ 0 ∷ n ∷ [] ≡ offsetFields 3 (0 ∷ n ∷ [])
+unfolding offsetFields filled
+moved-fields n = refl
+
+-- a refusal of a whole dump with the offset that it carries
+pub halt-fields : (halt : Halt) (a : NewStepAnswer) → newStepFields a ≡ newFoundFields (haltOf halt) → a .refusal ∷ a .offset ∷ 0 ∷ 0 ∷ [] ≡ offsetFields 4 (haltOf halt)
+unfolding newFoundFields offsetFields filled
+halt-fields (Malformed offset) a e = cc
+halt-fields Oversize a e = cc
+
+pub malformed-fields : (offset : ℕ) → 7 ∷ offset ∷ 0 ∷ [] ≡ offsetFields 3 (7 ∷ offset ∷ [])
+unfolding offsetFields filled
+malformed-fields offset = refl
+
+pub refusal-fields : (k : ℕ) → k ∷ 0 ∷ 0 ∷ [] ≡ offsetFields 3 (k ∷ [])
+unfolding offsetFields filled
+refusal-fields zero = refl
+refusal-fields (suc k) = rw (ne-eqb (suc k) 0 (λ e. absurd (omega arith)))

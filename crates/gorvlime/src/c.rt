@@ -1,16 +1,21 @@
 // The public calls for C: the answers of this crate's other calls in structs of numbers, 0 in the fields that an answer lacks.
 use code::Shape;
+use dump::Halt;
 ghost use mathlib.Core.Path.{_≡_};
-ghost use mathlib.Core.List.{_∷_};
+ghost use mathlib.Core.List.{_∷_, _++_};
 ghost use Rattle.code.specs.Calls.{filled, layoutFields, layoutReply, readReply, writeReply, writeLeaves};
 ghost use Rattle.field.specs.Answers.{readingOf, writingOf};
 ghost use Prim.Native.Nat.{_^_, _<_};
-ghost use lib.ListN.{replicate};
-ghost use Rattle.code.specs.Dump.{exportReply, exportLeaves, stepReply, walkReply, walkLeaves};
+ghost use lib.ListN.{take, drop, replicate};
+ghost use Rattle.code.specs.declared.Kind.the-variants.{Old, New};
+ghost use Rattle.code.specs.Dump.{oldExport, newExport, exportReply, exportLeaves, openReply, stepReply, walkReply, walkLeaves};
+ghost use Rattle.code.specs.NewDump.{layoutExportReply, layoutExportLeaves, toNewReply, toNewLeaves, toOldReply, toOldLeaves};
 ghost use Rattle.code.specs.Hex.{hexExportReply, hexExportLeaves, hexImportReply, hexImportLeaves};
-ghost use Rattle.dump.specs.Answers.{haltOf, stepOf, walkedOf};
+ghost use Rattle.dump.specs.Answers.{haltOf, openedReply, stepOf, walkedOf};
+ghost use Rattle.moves.specs.Answers.{movedOf};
 ghost use Rattle.storing.specs.Answers.{madeOf};
-ghost use Rattle.gorvlime.specs.Fields.{readingFields, writingFields, madeFields, stepFields, cellsEnd, foundFields};
+ghost use Rattle.gorvlime.specs.Fields.{readingFields, writingFields, madeFields, openFields, movedFields, offsetFields, stepFields, newStepFields};
+ghost use Rattle.gorvlime.specs.Fields.{cellsEnd, newFoundFields, foundFields};
 
 #[repr(C)]
 pub struct ReadAnswer {
@@ -119,8 +124,8 @@ pub extern "C" fn gorvlime_export(
     cells: &[u8],
     out: &mut [u8],
 ) -> MadeAnswer
-    ensures { λ r. ⌜ madeFields r ≡ filled 2 (exportReply serial m t v (now (cells .entry)) (now (out .entry))) ⌝ }
-    ensures { λ r. ⌜ now (out .exit) ≡ exportLeaves serial m t v (now (cells .entry)) (now (out .entry)) ⌝ }
+    ensures { λ r. ⌜ madeFields r ≡ filled 2 (exportReply (oldExport serial m t v) (now (cells .entry)) (now (out .entry))) ⌝ }
+    ensures { λ r. ⌜ now (out .exit) ≡ exportLeaves (oldExport serial m t v) (now (cells .entry)) (now (out .entry)) ⌝ }
 {
     flat_made(crate::export(serial, m, t, v, cells, out))
 }
@@ -143,18 +148,40 @@ pub struct StepAnswer {
     pub left: u64,
 }
 
+#[repr(C)]
+pub struct NewStepAnswer {
+    pub refusal: u64,
+    pub offset: u64,
+    pub records: u64,
+    pub serial: u64,
+    pub layout: u64,
+    pub shape: Shape,
+    pub start: u64,
+    pub length: u64,
+    pub next: u64,
+    pub refused: u64,
+    pub generation: u64,
+    pub number: u64,
+    pub left: u64,
+}
+
 // A step that gives no record.
-fn no_record(refusal: u64, offset: u64) -> StepAnswer
-    ensures { λ r. ⌜ stepFields r ≡ refusal ∷ offset ∷ replicate 12 0 ⌝ }
+fn no_record(refusal: u64, offset: u64) -> NewStepAnswer
+    ensures { λ r. ⌜ newStepFields r ≡ refusal ∷ offset ∷ replicate 14 0 ⌝ }
 {
-    StepAnswer {
+    let shape = Shape {
+        form: 0,
+        m: 0,
+        t: 0,
+        v: 0,
+    };
+    NewStepAnswer {
         refusal,
         offset,
         records: 0,
         serial: 0,
-        m: 0,
-        t: 0,
-        v: 0,
+        layout: 0,
+        shape,
         start: 0,
         length: 0,
         next: 0,
@@ -165,30 +192,30 @@ fn no_record(refusal: u64, offset: u64) -> StepAnswer
     }
 }
 
-fn flat_halt(halt: dump::Halt) -> StepAnswer
-    ensures { λ r. ⌜ stepFields r ≡ foundFields (haltOf halt) ⌝ }
+fn flat_halt(halt: Halt) -> NewStepAnswer
+    ensures { λ r. ⌜ newStepFields r ≡ newFoundFields (haltOf halt) ⌝ }
 {
     match halt {
-        dump::Halt::Malformed { offset } => no_record(7, offset as u64),
-        dump::Halt::Oversize => no_record(8, 0),
+        Halt::Malformed { offset } => no_record(7, offset as u64),
+        Halt::Oversize => no_record(8, 0),
     }
 }
 
-fn flat_step(a: dump::Step) -> StepAnswer
+fn flat_step(a: dump::Step) -> NewStepAnswer
     requires { ⌜ cellsEnd (stepOf a) < 2 ^ 64 ⌝ }
-    ensures { λ r. ⌜ stepFields r ≡ foundFields (stepOf a) ⌝ }
+    ensures { λ r. ⌜ newStepFields r ≡ newFoundFields (stepOf a) ⌝ }
 {
     match a {
         dump::Step::Record { record, outcome } => {
             let o = flat_reading(outcome);
-            StepAnswer {
+            let shape = record.shape;
+            NewStepAnswer {
                 refusal: 0,
                 offset: 0,
                 records: 1,
                 serial: record.serial,
-                m: record.m,
-                t: record.t,
-                v: record.v,
+                layout: record.layout,
+                shape,
                 start: record.start as u64,
                 length: record.count as u64,
                 next: (record.start + record.count) as u64,
@@ -203,19 +230,161 @@ fn flat_step(a: dump::Step) -> StepAnswer
     }
 }
 
+// A step of an old dump, which has no number of a layout and no form.
+fn without_layout(a: NewStepAnswer) -> StepAnswer
+    ensures { λ r. ⌜ stepFields r ≡ take 4 (newStepFields a) ++ drop 6 (newStepFields a) ⌝ }
+{
+    let s = a.shape;
+    StepAnswer {
+        refusal: a.refusal,
+        offset: a.offset,
+        records: a.records,
+        serial: a.serial,
+        m: s.m,
+        t: s.t,
+        v: s.v,
+        start: a.start,
+        length: a.length,
+        next: a.next,
+        refused: a.refused,
+        generation: a.generation,
+        number: a.number,
+        left: a.left,
+    }
+}
+
 #[no_mangle]
 pub extern "C" fn gorvlime_step(bytes: &[u8], at: usize) -> StepAnswer
-    ensures { λ r. ⌜ stepFields r ≡ foundFields (stepReply (now (bytes .entry)) at) ⌝ }
+    ensures { λ r. ⌜ stepFields r ≡ foundFields (stepReply Old (now (bytes .entry)) at) ⌝ }
 {
-    flat_step(crate::step(bytes, at))
+    without_layout(flat_step(crate::step(bytes, at)))
+}
+
+#[no_mangle]
+pub extern "C" fn gorvlime_step_new(bytes: &[u8], at: usize) -> NewStepAnswer
+    ensures { λ r. ⌜ newStepFields r ≡ newFoundFields (stepReply New (now (bytes .entry)) at) ⌝ }
+{
+    flat_step(crate::step_new(bytes, at))
+}
+
+#[repr(C)]
+pub struct OpenAnswer {
+    pub refusal: u64,
+    pub offset: u64,
+    pub layouts: u64,
+    pub first: u64,
+}
+
+fn flat_opened(a: dump::Opened) -> OpenAnswer
+    ensures { λ r. ⌜ openFields r ≡ offsetFields 4 (openedReply a) ⌝ }
+{
+    match a {
+        dump::Opened::Records { start, layouts } => OpenAnswer {
+            refusal: 0,
+            offset: 0,
+            layouts: layouts as u64,
+            first: start as u64,
+        },
+        dump::Opened::Barred(halt) => {
+            let h = flat_halt(halt);
+            OpenAnswer {
+                refusal: h.refusal,
+                offset: h.offset,
+                layouts: 0,
+                first: 0,
+            }
+        }
+    }
+}
+
+#[no_mangle]
+pub extern "C" fn gorvlime_open_new(bytes: &[u8]) -> OpenAnswer
+    ensures { λ r. ⌜ openFields r ≡ offsetFields 4 (openReply New (now (bytes .entry))) ⌝ }
+{
+    flat_opened(crate::open_new(bytes))
 }
 
 #[no_mangle]
 pub extern "C" fn gorvlime_walk(bytes: &[u8], at: usize, rows: &mut [u64]) -> dump::Walked
-    ensures { λ r. ⌜ walkedOf r ≡ walkReply (now (bytes .entry)) at (now (rows .entry)) ⌝ }
-    ensures { λ r. ⌜ now (rows .exit) ≡ walkLeaves (now (bytes .entry)) at (now (rows .entry)) ⌝ }
+    ensures { λ r. ⌜ walkedOf r ≡ walkReply Old (now (bytes .entry)) at (now (rows .entry)) ⌝ }
+    ensures { λ r. ⌜ now (rows .exit) ≡ walkLeaves Old (now (bytes .entry)) at (now (rows .entry)) ⌝ }
 {
     crate::walk(bytes, at, rows)
+}
+
+#[no_mangle]
+pub extern "C" fn gorvlime_walk_new(bytes: &[u8], at: usize, rows: &mut [u64]) -> dump::Walked
+    ensures { λ r. ⌜ walkedOf r ≡ walkReply New (now (bytes .entry)) at (now (rows .entry)) ⌝ }
+    ensures { λ r. ⌜ now (rows .exit) ≡ walkLeaves New (now (bytes .entry)) at (now (rows .entry)) ⌝ }
+{
+    crate::walk_new(bytes, at, rows)
+}
+
+#[repr(C)]
+pub struct MovedAnswer {
+    pub refusal: u64,
+    pub offset: u64,
+    pub length: u64,
+}
+
+fn flat_moved(a: moves::Moved) -> MovedAnswer
+    ensures { λ r. ⌜ movedFields r ≡ offsetFields 3 (movedOf a) ⌝ }
+{
+    match a {
+        moves::Moved::Stored(n) => MovedAnswer {
+            refusal: 0,
+            offset: 0,
+            length: n as u64,
+        },
+        moves::Moved::Malformed { offset } => MovedAnswer {
+            refusal: 7,
+            offset: offset as u64,
+            length: 0,
+        },
+        moves::Moved::Refused(k) => MovedAnswer {
+            refusal: k,
+            offset: 0,
+            length: 0,
+        },
+    }
+}
+
+#[no_mangle]
+pub extern "C" fn gorvlime_move_to_new(bytes: &[u8], out: &mut [u8]) -> MovedAnswer
+    ensures { λ r. ⌜ movedFields r ≡ offsetFields 3 (toNewReply (now (bytes .entry)) (now (out .entry))) ⌝ }
+    ensures { λ r. ⌜ now (out .exit) ≡ toNewLeaves (now (bytes .entry)) (now (out .entry)) ⌝ }
+{
+    flat_moved(crate::move_to_new(bytes, out))
+}
+
+#[no_mangle]
+pub extern "C" fn gorvlime_move_to_old(bytes: &[u8], out: &mut [u8]) -> MovedAnswer
+    ensures { λ r. ⌜ movedFields r ≡ offsetFields 3 (toOldReply (now (bytes .entry)) (now (out .entry))) ⌝ }
+    ensures { λ r. ⌜ now (out .exit) ≡ toOldLeaves (now (bytes .entry)) (now (out .entry)) ⌝ }
+{
+    flat_moved(crate::move_to_old(bytes, out))
+}
+
+#[no_mangle]
+pub extern "C" fn gorvlime_export_layout(shape: Shape, out: &mut [u8]) -> MadeAnswer
+    ensures { λ r. ⌜ madeFields r ≡ filled 2 (layoutExportReply shape (now (out .entry))) ⌝ }
+    ensures { λ r. ⌜ now (out .exit) ≡ layoutExportLeaves shape (now (out .entry)) ⌝ }
+{
+    flat_made(crate::export_layout(shape, out))
+}
+
+#[no_mangle]
+pub extern "C" fn gorvlime_export_record(
+    serial: u64,
+    number: u64,
+    shape: Shape,
+    cells: &[u8],
+    out: &mut [u8],
+) -> MadeAnswer
+    ensures { λ r. ⌜ madeFields r ≡ filled 2 (exportReply (newExport serial number shape) (now (cells .entry)) (now (out .entry))) ⌝ }
+    ensures { λ r. ⌜ now (out .exit) ≡ exportLeaves (newExport serial number shape) (now (cells .entry)) (now (out .entry)) ⌝ }
+{
+    flat_made(crate::export_record(serial, number, shape, cells, out))
 }
 
 #[no_mangle]

@@ -1,21 +1,27 @@
 // The public calls: each answers for all inputs, and its promise fixes the answer and all that it is lent.
 pub mod c;
 
+use code::Kind;
 use code::Shape;
+use dump::Opened;
 use dump::Step;
 use dump::Walked;
 use field::Reading;
 use field::Writing;
 use layout::Layout;
+use moves::Moved;
 use storing::Made;
 ghost use mathlib.Core.Path.{_≡_};
 ghost use mathlib.Core.List.{_∷_};
 ghost use lib.ListN.{take, drop};
 ghost use Rattle.code.specs.Calls.{filled, layoutFields, layoutReply, readReply, writeReply, writeLeaves};
-ghost use Rattle.code.specs.Dump.{exportReply, exportLeaves, stepReply, walkReply, walkLeaves};
+ghost use Rattle.code.specs.declared.Kind.the-variants.{Old, New};
+ghost use Rattle.code.specs.Dump.{oldExport, newExport, exportReply, exportLeaves, openReply, stepReply, walkReply, walkLeaves};
+ghost use Rattle.code.specs.NewDump.{layoutExportReply, layoutExportLeaves, toNewReply, toNewLeaves, toOldReply, toOldLeaves};
 ghost use Rattle.code.specs.Hex.{hexExportReply, hexExportLeaves, hexImportReply, hexImportLeaves};
 ghost use Rattle.field.specs.Answers.{readingOf, writingOf};
-ghost use Rattle.dump.specs.Answers.{stepOf, walkedOf};
+ghost use Rattle.dump.specs.Answers.{openedReply, stepOf, walkedOf};
+ghost use Rattle.moves.specs.Answers.{movedOf};
 ghost use Rattle.storing.specs.Answers.{madeOf};
 
 // The counts of a field in g groups.
@@ -40,19 +46,49 @@ pub fn write(s: Shape, cells: &mut [u8], number: u64) -> Writing
     field::write(s, cells, number)
 }
 
-// The record of a field, at the front of the output.
+// The record of a field for an old dump, at the front of the output.
 pub fn export(serial: u64, m: u64, t: u64, v: u64, cells: &[u8], out: &mut [u8]) -> Made
-    ensures { λ r. ⌜ madeOf r ≡ exportReply serial m t v (now (cells .entry)) (now (out .entry)) ⌝ }
-    ensures { λ r. ⌜ now (out .exit) ≡ exportLeaves serial m t v (now (cells .entry)) (now (out .entry)) ⌝ }
+    ensures { λ r. ⌜ madeOf r ≡ exportReply (oldExport serial m t v) (now (cells .entry)) (now (out .entry)) ⌝ }
+    ensures { λ r. ⌜ now (out .exit) ≡ exportLeaves (oldExport serial m t v) (now (cells .entry)) (now (out .entry)) ⌝ }
 {
-    dump::export(serial, m, t, v, cells, out)
+    dump::export::export_old(serial, m, t, v, cells, out)
 }
 
-// The record at a place of a dump.
-pub fn step(bytes: &[u8], at: usize) -> Step
-    ensures { λ r. ⌜ stepOf r ≡ stepReply (now (bytes .entry)) at ⌝ }
+// A layout for the list of a new dump, at the front of the output.
+pub fn export_layout(shape: Shape, out: &mut [u8]) -> Made
+    ensures { λ r. ⌜ madeOf r ≡ layoutExportReply shape (now (out .entry)) ⌝ }
+    ensures { λ r. ⌜ now (out .exit) ≡ layoutExportLeaves shape (now (out .entry)) ⌝ }
 {
-    dump::step_at(bytes, at)
+    dump::export::export_layout(shape, out)
+}
+
+// The record of a field for a new dump, whose layout has a number in its list, at the front of the output.
+pub fn export_record(serial: u64, number: u64, shape: Shape, cells: &[u8], out: &mut [u8]) -> Made
+    ensures { λ r. ⌜ madeOf r ≡ exportReply (newExport serial number shape) (now (cells .entry)) (now (out .entry)) ⌝ }
+    ensures { λ r. ⌜ now (out .exit) ≡ exportLeaves (newExport serial number shape) (now (cells .entry)) (now (out .entry)) ⌝ }
+{
+    dump::export::export_record(serial, number, shape, cells, out)
+}
+
+// The record at a place of an old dump.
+pub fn step(bytes: &[u8], at: usize) -> Step
+    ensures { λ r. ⌜ stepOf r ≡ stepReply Old (now (bytes .entry)) at ⌝ }
+{
+    dump::step_at(bytes, Kind::Old, at)
+}
+
+// The layouts of a new dump, how many there are, and the place of its first record.
+pub fn open_new(bytes: &[u8]) -> Opened
+    ensures { λ r. ⌜ openedReply r ≡ openReply New (now (bytes .entry)) ⌝ }
+{
+    dump::open_new(bytes)
+}
+
+// The record at a place of a new dump.
+pub fn step_new(bytes: &[u8], at: usize) -> Step
+    ensures { λ r. ⌜ stepOf r ≡ stepReply New (now (bytes .entry)) at ⌝ }
+{
+    dump::step_at(bytes, Kind::New, at)
 }
 
 // The cells of a record that a step gives, as a part of its dump.
@@ -62,12 +98,36 @@ pub fn part(bytes: &[u8], start: usize, count: usize) -> &[u8]
     records::part(bytes, start, count)
 }
 
-// The records from a place of a dump on, ten numbers each, as many as fit into the rows.
+// The records from a place of an old dump on, ten numbers each, as many as fit into the rows.
 pub fn walk(bytes: &[u8], at: usize, rows: &mut [u64]) -> Walked
-    ensures { λ r. ⌜ walkedOf r ≡ walkReply (now (bytes .entry)) at (now (rows .entry)) ⌝ }
-    ensures { λ r. ⌜ now (rows .exit) ≡ walkLeaves (now (bytes .entry)) at (now (rows .entry)) ⌝ }
+    ensures { λ r. ⌜ walkedOf r ≡ walkReply Old (now (bytes .entry)) at (now (rows .entry)) ⌝ }
+    ensures { λ r. ⌜ now (rows .exit) ≡ walkLeaves Old (now (bytes .entry)) at (now (rows .entry)) ⌝ }
 {
-    dump::walk(bytes, at, rows)
+    dump::walk(bytes, Kind::Old, at, rows)
+}
+
+// The records from a place of a new dump on, twelve numbers each, as many as fit into the rows.
+pub fn walk_new(bytes: &[u8], at: usize, rows: &mut [u64]) -> Walked
+    ensures { λ r. ⌜ walkedOf r ≡ walkReply New (now (bytes .entry)) at (now (rows .entry)) ⌝ }
+    ensures { λ r. ⌜ now (rows .exit) ≡ walkLeaves New (now (bytes .entry)) at (now (rows .entry)) ⌝ }
+{
+    dump::walk(bytes, Kind::New, at, rows)
+}
+
+// The new dump that an old one moves to, at the front of the output.
+pub fn move_to_new(bytes: &[u8], out: &mut [u8]) -> Moved
+    ensures { λ r. ⌜ movedOf r ≡ toNewReply (now (bytes .entry)) (now (out .entry)) ⌝ }
+    ensures { λ r. ⌜ now (out .exit) ≡ toNewLeaves (now (bytes .entry)) (now (out .entry)) ⌝ }
+{
+    moves::move_to_new(bytes, out)
+}
+
+// The old dump that a new one moves back to, at the front of the output.
+pub fn move_to_old(bytes: &[u8], out: &mut [u8]) -> Moved
+    ensures { λ r. ⌜ movedOf r ≡ toOldReply (now (bytes .entry)) (now (out .entry)) ⌝ }
+    ensures { λ r. ⌜ now (out .exit) ≡ toOldLeaves (now (bytes .entry)) (now (out .entry)) ⌝ }
+{
+    moves::move_to_old(bytes, out)
 }
 
 // The Intel HEX text of bytes, at the front of the output.

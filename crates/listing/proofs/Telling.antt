@@ -7,8 +7,9 @@ use native.Mathlib.Omega.{arith}
 use native.Mathlib.Numerals.{add-one}
 use lib.ListN.{length, take, drop}
 use lib.Seq.{take-at}
+use Rattle.code.specs.declared.Kind.{Kind}
 use Rattle.code.specs.declared.Record as Declared
-use Rattle.code.specs.Dump.{cellsOf, outcome, stepReply, recordLine, lastLine, lines, textFrom, shapeOf}
+use Rattle.code.specs.Dump.{cellsOf, outcome, stepReply, recordLine, lastLine, lines, textFrom}
 use Rattle.code.proofs.Tests.{clash, same-test}
 use Rattle.code.proofs.ReadCall.{read-refusing}
 use Rattle.code.proofs.Walk.{walk-ended, walk-stopped, onward-taken}
@@ -27,25 +28,25 @@ use Rattle.listing.specs.Listing.{linesMost, Refusing, haltLines, textLe
 use Rattle.listing.specs.declared.Listing.{Listing}
 use Rattle.listing.specs.declared.Told.{Told}
 
-module _ (bytes : List ℕ) (at : ℕ) {s : Step} (gives : stepOf s ≡ stepReply bytes at) where
+module _ (kind : Kind) (bytes : List ℕ) (at : ℕ) {s : Step} (gives : stepOf s ≡ stepReply kind bytes at) where
   module _ {r : Declared.Record} {reading : Reading} (e : s ≡ Record r reading) where
-    record-text : (count : ℕ) → textFrom bytes at count ≡ recordLine (r .serial) (readingOf reading) ++ textFrom bytes (r .start + r .count) (count + 1)
+    record-text : (count : ℕ) → textFrom kind bytes at count ≡ recordLine (r .serial) (readingOf reading) ++ textFrom kind bytes (r .start + r .count) (count + 1)
     unfolding lines
     record-text count =
-        let told = gives-record bytes at gives e in
-        rw (onward-taken bytes at r (told .0), told .1, add-one count)
+        let told = gives-record kind bytes at gives e in
+        rw (onward-taken kind bytes at r (told .0), told .1, add-one count)
 
     pub record-refusing : Refusing (readingOf reading)
     unfolding outcome
-    record-refusing = rw (← gives-record bytes at gives e .1) (read-refusing (shapeOf r) (cellsOf bytes r))
+    record-refusing = rw (← gives-record kind bytes at gives e .1) (read-refusing (r .shape) (cellsOf bytes r))
 
-  end-text : (count : ℕ) → s ≡ End → textFrom bytes at count ≡ lastLine count
+  end-text : (count : ℕ) → s ≡ End → textFrom kind bytes at count ≡ lastLine count
   unfolding lines
-  end-text count e = rw (walk-ended (length bytes - at) bytes at (gives-end bytes at gives e))
+  end-text count e = rw (walk-ended kind bytes (length bytes - at) at (gives-end kind bytes at gives e))
 
-  stop-text : (count : ℕ) {halt : Halt} → s ≡ Stop halt → textFrom bytes at count ≡ haltLines count halt
+  stop-text : (count : ℕ) {halt : Halt} → s ≡ Stop halt → textFrom kind bytes at count ≡ haltLines count halt
   unfolding lines
-  stop-text count {halt} e = rw (walk-stopped (length bytes - at) bytes at (haltNumber halt) (haltCarries halt) (gives-stop bytes at gives e))
+  stop-text count {halt} e = rw (walk-stopped kind bytes (length bytes - at) at (haltNumber halt) (haltCarries halt) (gives-stop kind bytes at gives e))
 
 pub same-listing : {s r : Listing} → s .next ≡ r .next → s .count ≡ r .count → _≡_ {A = ℕ} (cond (s .over) 1 0) (cond (r .over) 1 0) → s ≡ r
 same-listing {s} {r} a b c =
@@ -53,9 +54,9 @@ same-listing {s} {r} a b c =
     λ i. record { next = a i; count = b i; over = o i }
 
 -- so each step's lines are told
-module _ {bytes : List ℕ} {l : Listing} {before after : List ℕ} {at : ℕ} {r : Told} (on : l .over ≡ false) where
-  closes : (piece : List ℕ) → textFrom bytes (l .next) (l .count) ≡ piece → Closed (r .listing) →
-      PutWithin linesMost before after at piece (r .end) → LinesTold bytes l before after at r
+module _ {kind : Kind} {bytes : List ℕ} {l : Listing} {before after : List ℕ} {at : ℕ} {r : Told} (on : l .over ≡ false) where
+  closes : (piece : List ℕ) → textFrom kind bytes (l .next) (l .count) ≡ piece → Closed (r .listing) →
+      PutWithin linesMost before after at piece (r .end) → LinesTold kind bytes l before after at r
   closes piece e c p = record {
     piece = piece;
     put = p;
@@ -64,37 +65,37 @@ module _ {bytes : List ℕ} {l : Listing} {before after : List ℕ} {at : ℕ} {
     further = λ q. clash (cc);
   }
 
-  module _ {s : Step} (gives : stepOf s ≡ stepReply bytes (l .next)) where
+  module _ {s : Step} (gives : stepOf s ≡ stepReply kind bytes (l .next)) where
     pub tells-record : {p : Declared.Record} {reading : Reading} {behind : Listing} → s ≡ Record p reading → GoesOn l (p .start + p .count) behind →
-        (r .listing ≡ behind) × PutWithin linesMost before after at (recordLine (p .serial) (readingOf reading)) (r .end) → LinesTold bytes l before after at r
+        (r .listing ≡ behind) × PutWithin linesMost before after at (recordLine (p .serial) (readingOf reading)) (r .end) → LinesTold kind bytes l before after at r
     tells-record {p = entry} {reading} e g p = record {
       piece = recordLine (entry .serial) (readingOf reading);
       put = p .1;
-      text = rw (on, p .0, g .on, g .further, g .counted) (record-text bytes (l .next) gives e (l .count));
+      text = rw (on, p .0, g .on, g .further, g .counted) (record-text kind bytes (l .next) gives e (l .count));
       standing = rw (p .0) (g .standing);
-      further = rw (p .0, g .further) (λ q. record-further bytes (l .next) gives e .0);
+      further = rw (p .0, g .further) (λ q. record-further kind bytes (l .next) gives e .0);
     }
 
-    pub tells-end : s ≡ End → Closed (r .listing) → PutWithin closingLine before after at (lastLine (l .count)) (r .end) → LinesTold bytes l before after at r
-    tells-end e c p = closes (lastLine (l .count)) (end-text bytes (l .next) gives (l .count) e) c (wider (omega arith) p)
+    pub tells-end : s ≡ End → Closed (r .listing) → PutWithin closingLine before after at (lastLine (l .count)) (r .end) → LinesTold kind bytes l before after at r
+    tells-end e c p = closes (lastLine (l .count)) (end-text kind bytes (l .next) gives (l .count) e) c (wider (omega arith) p)
 
     pub tells-stop : {halt : Halt} → s ≡ Stop halt → Closed (r .listing) →
-        PutWithin linesMost before after at (haltLines (l .count) halt) (r .end) → LinesTold bytes l before after at r
-    tells-stop {halt} e c p = closes (haltLines (l .count) halt) (stop-text bytes (l .next) gives (l .count) e) c p
+        PutWithin linesMost before after at (haltLines (l .count) halt) (r .end) → LinesTold kind bytes l before after at r
+    tells-stop {halt} e c p = closes (haltLines (l .count) halt) (stop-text kind bytes (l .next) gives (l .count) e) c p
 
 -- lines one after the other fill the front of the output
-pub record Filling (bytes : List ℕ) (start : Listing) (before after : List ℕ) (s : Listing) (end : ℕ) : Type 0 where
+pub record Filling (kind : Kind) (bytes : List ℕ) (start : Listing) (before after : List ℕ) (s : Listing) (end : ℕ) : Type 0 where
   pub told : List ℕ
   pub put : Put before after 0 told end
-  pub text : textLeft bytes start ≡ told ++ textLeft bytes s
+  pub text : textLeft kind bytes start ≡ told ++ textLeft kind bytes s
   pub inside : end ≤ length before
   pub same : length after ≡ length before
   pub standing : Standing s
   pub reached : s .over ≡ false → start .next ≤ s .next
   pub further : 0 < end → s .over ≡ false → start .next < s .next
 
-pub filling-begin : (bytes : List ℕ) (start : Listing) (out : List ℕ) → Standing start → Filling bytes start out out start 0
-filling-begin bytes start out standing = record {
+pub filling-begin : (kind : Kind) (bytes : List ℕ) (start : Listing) (out : List ℕ) → Standing start → Filling kind bytes start out out start 0
+filling-begin kind bytes start out standing = record {
   told = [];
   put = put-none out 0;
   text = refl;
@@ -105,14 +106,14 @@ filling-begin bytes start out standing = record {
   further = λ some. absurd (omega arith);
 }
 
-module _ {bytes : List ℕ} {start : Listing} {before after : List ℕ} {s : Listing} {end : ℕ} (f : Filling bytes start before after s end) where
-  pub filling-end : (s .over ≡ false → start .next < s .next) → Fills bytes start after record { listing = s; end = end }
+module _ {kind : Kind} {bytes : List ℕ} {start : Listing} {before after : List ℕ} {s : Listing} {end : ℕ} (f : Filling kind bytes start before after s end) where
+  pub filling-end : (s .over ≡ false → start .next < s .next) → Fills kind bytes start after record { listing = s; end = end }
   filling-end further =
       let front : take end after ≡ f .told = rw (put-pastes (f .put) (f .inside)) (take-at (f .told) (drop end before) end (omega (arith, f .put .ends))) in
       record { text = rw front (f .text); inside = omega (arith, f .inside, f .same); standing = f .standing; further = further }
 
-  pub filling-next : {last : List ℕ} {r : Told} → s .over ≡ false → linesMost ≤ length before - end → LinesTold bytes s after last end r →
-      Filling bytes start before last (r .listing) (r .end)
+  pub filling-next : {last : List ℕ} {r : Told} → s .over ≡ false → linesMost ≤ length before - end → LinesTold kind bytes s after last end r →
+      Filling kind bytes start before last (r .listing) (r .end)
   filling-next {last} {r} on room t = record {
     told = f .told ++ t .piece;
     put = put-then (f .put) (t .put .put);

@@ -4,6 +4,7 @@ use mathlib.Core.Path.{_≡_}
 use mathlib.Core.Bool.{true, false, cond}
 use mathlib.Core.List.{List, [], _∷_, _++_}
 use lib.ListN.{length, take}
+use Rattle.code.specs.declared.Kind.{Kind}
 use Rattle.code.specs.Dump.{stopLines, textFrom}
 use Rattle.text.specs.Within.{PutWithin, readingLine}
 use Rattle.dump.specs.Answers.{dumpMost, haltNumber, haltCarries}
@@ -24,8 +25,8 @@ abbrev pub haltLines : ℕ → Halt → List ℕ
 haltLines count halt = stopLines count (haltNumber halt) (haltCarries halt)
 
 -- the text that is still to be told
-abbrev pub textLeft : List ℕ → Listing → List ℕ
-textLeft bytes s = cond (s .over) [] (textFrom bytes (s .next) (s .count))
+abbrev pub textLeft : Kind → List ℕ → Listing → List ℕ
+textLeft kind bytes s = cond (s .over) [] (textFrom kind bytes (s .next) (s .count))
 
 -- a listing comes by no more records than bytes
 pub record Standing (s : Listing) : Type 0 where
@@ -44,16 +45,16 @@ abbrev pub Closed : Listing → Type 0
 Closed s = Standing s × (s .over ≡ true)
 
 -- a step's lines are told from a place of the output on
-pub record LinesTold (bytes : List ℕ) (s : Listing) (before after : List ℕ) (at : ℕ) (r : Told) : Type 0 where
+pub record LinesTold (kind : Kind) (bytes : List ℕ) (s : Listing) (before after : List ℕ) (at : ℕ) (r : Told) : Type 0 where
   pub piece : List ℕ
   pub put : PutWithin linesMost before after at piece (r .end)
-  pub text : textLeft bytes s ≡ piece ++ textLeft bytes (r .listing)
+  pub text : textLeft kind bytes s ≡ piece ++ textLeft kind bytes (r .listing)
   pub standing : Standing (r .listing)
   pub further : r .listing .over ≡ false → s .next < r .listing .next
 
 -- the front of the output is the next piece of the text; either it is the last, or the listing went on
-pub record Fills (bytes : List ℕ) (s : Listing) (out : List ℕ) (r : Told) : Type 0 where
-  pub text : textLeft bytes s ≡ take (r .end) out ++ textLeft bytes (r .listing)
+pub record Fills (kind : Kind) (bytes : List ℕ) (s : Listing) (out : List ℕ) (r : Told) : Type 0 where
+  pub text : textLeft kind bytes s ≡ take (r .end) out ++ textLeft kind bytes (r .listing)
   pub inside : r .end ≤ length out
   pub standing : Standing (r .listing)
   pub further : r .listing .over ≡ false → s .next < r .listing .next

@@ -1,4 +1,5 @@
 // The text of a listing, told piece by piece into a lent output: document 01, "`fieldlist` reads standard input and prints one line per record".
+use code::Kind;
 use dump::Halt;
 use dump::Step;
 use field::Reading;
@@ -9,11 +10,11 @@ ghost use lib.ListN.{length};
 ghost use Rattle.code.specs.Dump.{stepReply, recordLine};
 ghost use Rattle.field.specs.Answers.{readingOf};
 ghost use Rattle.text.specs.Within.{PutWithin};
-ghost use Rattle.dump.specs.Answers.{dumpMost, stepOf};
+ghost use Rattle.dump.specs.Answers.{dumpMost, Ready, stepOf};
 ghost use Rattle.listing.specs.Listing.{linesMost, Refusing, haltLines, Standing, GoesOn, Closed, LinesTold, Fills};
 
 // The most bytes that a step's lines take.
-const LINES_MOST: usize = 84;
+pub const LINES_MOST: usize = 84;
 
 // How far a listing is told: where the next step starts, the records before it, and whether all is told.
 pub struct Listing {
@@ -22,11 +23,12 @@ pub struct Listing {
     pub over: bool,
 }
 
-pub fn start_listing() -> Listing
-    ensures { λ r. ⌜ Standing r × (r .next ≡ 0) × (r .count ≡ 0) × (r .over ≡ false) ⌝ }
+pub fn start_listing(start: usize) -> Listing
+    requires { ⌜ start ≤ dumpMost ⌝ }
+    ensures { λ r. ⌜ Standing r × (r .next ≡ start) × (r .count ≡ 0) × (r .over ≡ false) ⌝ }
 {
     Listing {
-        next: 0,
+        next: start,
         count: 0,
         over: false,
     }
@@ -81,7 +83,7 @@ fn tell_outcome(out: &mut [u8], at: usize, serial: u64, outcome: Reading, listin
 }
 
 // The lines that end the listing of a dump whose walk stops before the end.
-fn put_halt_lines(out: &mut [u8], at: usize, count: u64, halt: Halt) -> usize
+pub fn put_halt_lines(out: &mut [u8], at: usize, count: u64, halt: Halt) -> usize
     requires { ⌜ at + linesMost ≤ length (now out) ⌝ }
     ensures { λ r. ⌜ PutWithin linesMost (now (out .entry)) (now (out .exit)) at (haltLines count halt) r ⌝ }
 {
@@ -91,11 +93,11 @@ fn put_halt_lines(out: &mut [u8], at: usize, count: u64, halt: Halt) -> usize
     }
 }
 
-// Tells the lines of the step that is due. The dump stands here for the promise alone.
-fn tell_step(dump: &[u8], s: Listing, step: Step, out: &mut [u8], at: usize) -> Told
+// Tells the lines of the step that is due. The dump and its kind stand here for the promise alone.
+fn tell_step(dump: &[u8], kind: Kind, s: Listing, step: Step, out: &mut [u8], at: usize) -> Told
     requires { ⌜ Standing s × (s .over ≡ false) × (at + linesMost ≤ length (now out)) ⌝ }
-    requires { ⌜ stepOf «step» ≡ stepReply (now dump) (s .next) ⌝ }
-    ensures { λ r. ⌜ LinesTold (now (dump .entry)) s (now (out .entry)) (now (out .exit)) at r ⌝ }
+    requires { ⌜ stepOf «step» ≡ stepReply kind (now dump) (s .next) ⌝ }
+    ensures { λ r. ⌜ LinesTold kind (now (dump .entry)) s (now (out .entry)) (now (out .exit)) at r ⌝ }
 {
     match step {
         Step::Record { record, outcome } => {
@@ -116,19 +118,19 @@ fn tell_step(dump: &[u8], s: Listing, step: Step, out: &mut [u8], at: usize) -> 
 }
 
 // Tells the next lines, as many as surely fit.
-pub fn fill(dump: &[u8], start: Listing, out: &mut [u8]) -> Told
-    requires { ⌜ Standing start × (start .over ≡ false) × (linesMost ≤ length (now out)) ⌝ }
-    ensures { λ r. ⌜ Fills (now (dump .entry)) start (now (out .exit)) r ⌝ }
+pub fn fill(dump: &[u8], kind: Kind, places: &[u16], start: Listing, out: &mut [u8]) -> Told
+    requires { ⌜ Ready kind (now dump) (now places) × Standing start × (start .over ≡ false) × (linesMost ≤ length (now out)) ⌝ }
+    ensures { λ r. ⌜ Fills kind (now (dump .entry)) start (now (out .exit)) r ⌝ }
 {
     let mut s = start;
     let mut h = [0u64; 16];
     let mut kept = dump::keep_none();
     let mut end = 0;
     while LINES_MOST <= out.len() - end {
-        let stepped = dump::step_kept(dump, s.next, &mut h, kept);
+        let stepped = dump::step_kept(dump, kind, places, s.next, &mut h, kept);
         kept = stepped.kept;
         let step = stepped.step;
-        let told = tell_step(dump, s, step, out, end);
+        let told = tell_step(dump, kind, s, step, out, end);
         s = told.listing;
         end = told.end;
         if s.over {

@@ -9,7 +9,7 @@ use native.Mathlib.Numerals.{add-one, one-add}
 use lib.Arith.{lt-of-le-ne}
 use lib.ListN.{length, getD, drop, drop-of-length-le, take, set, length-set}
 use lib.Seq.{drop-cons, take-all, take-suc-set}
-use Rattle.code.specs.Dump.{Numeral, malformed, numeral, longer, readSevens, Numbers, cut, numbers, preceded, readNumbers}
+use Rattle.code.specs.Numerals.{Numeral, malformed, numeral, longer, readSevens, Numbers, cut, numbers, preceded, readNumbers}
 use Rattle.code.proofs.Tests.{le-or-lt, clash}
 use Rattle.code.proofs.Numerals.{read-last, read-more}
 use Rattle.code.proofs.Records.{numbers-one, numbers-cut}

@@ -1,8 +1,8 @@
 -- What reading numbers of a dump answers.
 use Prim.Native.Nat.{ℕ, _+_}
 use mathlib.Core.List.{List}
-use Rattle.code.specs.Dump.{Numeral, malformed, numeral}
-use Rattle.code.specs.Dump as Dump
+use Rattle.code.specs.Numerals.{Numeral, malformed, numeral}
+use Rattle.code.specs.Numerals as Numerals
 use Rattle.numerals.specs.declared.Number.{Number}
 use Rattle.numerals.specs.declared.Number.the-variants.{Found, Malformed}
 use Rattle.numerals.specs.declared.Numbers.{Numbers}
@@ -14,6 +14,6 @@ numberOf at malformed = Malformed
 numberOf at (numeral x n) = Found x (at + n)
 
 -- of the numbers that are stored: these and the place behind them, or that they are cut off
-abbrev pub numbersOf : List ℕ → Numbers → Dump.Numbers
-numbersOf xs Cut = Dump.cut
-numbersOf xs (Read end) = Dump.numbers xs end
+abbrev pub numbersOf : List ℕ → Numbers → Numerals.Numbers
+numbersOf xs Cut = Numerals.cut
+numbersOf xs (Read end) = Numerals.numbers xs end

@@ -3,7 +3,7 @@ ghost use mathlib.Core.Path.{_≡_};
 ghost use Prim.Native.Nat.{_+_, _-_, _^_, _<_, _≤_};
 ghost use lib.ListN.{length, getD, drop};
 ghost use Rattle.code.specs.Lists.{Below};
-ghost use Rattle.code.specs.Dump.{sevens, readSevens, numeralsOf, readNumbers};
+ghost use Rattle.code.specs.Numerals.{sevens, readSevens, numeralsOf, readNumbers};
 ghost use Rattle.storing.specs.Put.{Put};
 ghost use Rattle.numerals.specs.Number.{numberOf, numbersOf};
 

@@ -1,30 +1,90 @@
 -- What the numbers at the head of a record tell.
-use mathlib.Core.Path.{_≡_, sym, ap, _∙_}
+use mathlib.Core.Path.{_≡_, refl, sym, ap, _∙_}
+use mathlib.Core.Bool.{true, false}
 use mathlib.Core.List.{List, [], _∷_}
-use Prim.Native.Nat.{ℕ, _-_, _≤_, _<_}
-use lib.ListN.{length, getD}
-use Rattle.code.specs.Dump as Dump
-use Rattle.code.specs.Dump.{readNumbers, taken, stopped, recordBy, broken, recordAt}
+use Prim.Native.Nat.{ℕ, zero, suc, _-_, _≤_, _<_}
+use native.Mathlib.Omega.{arith}
+use lib.ListN.{length, getD, drop}
+use lib.Seq.{getD-drop}
+use borrow.Author.Tests.{le-leb, lt-leb}
+use Rattle.code.specs.Numerals as Numerals
+use Rattle.code.specs.Numerals.{readNumbers}
+use Rattle.code.specs.declared.Shape.{Shape}
+use Rattle.code.specs.Shape.{shaped}
+use Rattle.code.specs.LayoutList.{Listed, unlisted, listedBy, listedShape}
+use Rattle.code.specs.Dump.{Source, headLength, listedLayouts, outOfList, taken, stopped, recordBy, broken, recordAt}
 use Rattle.code.proofs.Walk.{numbers-within}
-use Rattle.code.proofs.Records.{record-found, record-short}
+use Rattle.code.proofs.Records.{record-off, record-found, record-short}
 use Rattle.numerals.specs.Number.{numbersOf}
 use Rattle.numerals.specs.declared.Numbers.{Numbers}
 use Rattle.numerals.specs.declared.Numbers.the-variants.{Read, Cut}
+use Rattle.records.specs.Source.{listedFrom, layoutAt, layoutsAt}
 
-module _ (bytes : List ℕ) (at : ℕ) (xs : List ℕ) {r : Numbers} (read : numbersOf xs r ≡ readNumbers 5 bytes at) where
-  pub head-cut : r ≡ Cut → stopped 7 (at ∷ []) ≡ recordAt bytes at (readNumbers 5 bytes at)
+-- the shape of four numbers
+abbrev four : List ℕ → Shape
+four xs = record { form = getD xs 0 0; m = getD xs 1 0; t = getD xs 2 0; v = getD xs 3 0 }
+
+module _ (source : Source) (bytes : List ℕ) (at : ℕ) (xs : List ℕ) {r : Numbers} (read : numbersOf xs r ≡ readNumbers (suc (headLength source)) bytes at) where
+  pub head-cut : r ≡ Cut → stopped 7 (at ∷ []) ≡ recordAt source bytes at (readNumbers (suc (headLength source)) bytes at)
   unfolding broken
-  head-cut e = ap (recordAt bytes at) (ap (numbersOf xs) (sym e) ∙ read)
+  head-cut e = ap (recordAt source bytes at) (ap (numbersOf xs) (sym e) ∙ read)
 
   module _ {end : ℕ} (e : r ≡ Read end) where
-    told : Dump.numbers xs end ≡ readNumbers 5 bytes at
+    told : Numerals.numbers xs end ≡ readNumbers (suc (headLength source)) bytes at
     told = ap (numbersOf xs) (sym e) ∙ read
 
     pub head-within : end ≤ length bytes
-    head-within = numbers-within 4 bytes at xs end (sym told)
+    head-within = numbers-within (headLength source) bytes at xs end (sym told)
 
-    pub head-short : length bytes - end < getD xs 4 0 → stopped 7 (at ∷ []) ≡ recordAt bytes at (readNumbers 5 bytes at)
-    head-short h = sym (record-short bytes at xs end h) ∙ ap (recordAt bytes at) told
+    pub head-off : outOfList source xs ≡ true → stopped 7 (at ∷ []) ≡ recordAt source bytes at (readNumbers (suc (headLength source)) bytes at)
+    head-off o = sym (record-off source bytes at xs end o) ∙ ap (recordAt source bytes at) told
 
-    pub head-whole : getD xs 4 0 ≤ length bytes - end → taken (recordBy xs end) ≡ recordAt bytes at (readNumbers 5 bytes at)
-    head-whole h = sym (record-found bytes at xs end h) ∙ ap (recordAt bytes at) told
+    module _ (o : outOfList source xs ≡ false) where
+      pub head-short : length bytes - end < getD xs (headLength source) 0 →
+          stopped 7 (at ∷ []) ≡ recordAt source bytes at (readNumbers (suc (headLength source)) bytes at)
+      head-short h = sym (record-short source bytes at xs end o h) ∙ ap (recordAt source bytes at) told
+
+      pub head-whole : getD xs (headLength source) 0 ≤ length bytes - end →
+          taken (recordBy source xs end) ≡ recordAt source bytes at (readNumbers (suc (headLength source)) bytes at)
+      head-whole h = sym (record-found source bytes at xs end o h) ∙ ap (recordAt source bytes at) told
+
+-- the shape of the numbers at a place
+module _ (bytes : List ℕ) (place : ℕ) (xs : List ℕ) {r : Numbers} (read : numbersOf xs r ≡ readNumbers 4 bytes place) where
+  pub shape-told : {end : ℕ} → r ≡ Read end → four xs ≡ listedShape (layoutAt bytes place)
+  unfolding listedShape listedBy layoutAt
+  shape-told {end} e =
+      let last : getD (drop 3 xs) 0 0 ≡ getD xs 3 0 = getD-drop 3 xs 0 0 in
+      let is : listedShape (listedBy xs) ≡ listedShape (layoutAt bytes place) = ap (λ ns. listedShape (listedFrom ns)) (ap (numbersOf xs) (sym e) ∙ read) in
+      (λ i. record { form = getD xs 0 0; m = getD xs 1 0; t = getD xs 2 0; v = sym last i }) ∙ is
+
+  pub shape-none : r ≡ Cut → shaped 0 0 0 ≡ listedShape (layoutAt bytes place)
+  unfolding listedShape layoutAt
+  shape-none e = ap (λ ns. listedShape (listedFrom ns)) (ap (numbersOf xs) (sym e) ∙ read)
+
+module _ (bytes : List ℕ) where
+  -- layouts by their places are as many as the places
+  pub layouts-many : (places : List ℕ) → length (layoutsAt bytes places) ≡ length places
+  unfolding layoutsAt
+  layouts-many [] = refl
+  layouts-many (place ∷ places) = ap suc (layouts-many places)
+
+  pub layouts-each : (places : List ℕ) (i : ℕ) → i < length places → getD (layoutsAt bytes places) i unlisted ≡ layoutAt bytes (getD places i 0)
+  unfolding layoutsAt
+  layouts-each [] i h = absurd (omega arith)
+  layouts-each (place ∷ places) zero h = refl
+  layouts-each (place ∷ places) (suc i) h = layouts-each places i (omega arith)
+
+  module _ (places xs : List ℕ) where
+    pub off-list : length places ≤ getD xs 1 0 → outOfList (listedLayouts (layoutsAt bytes places)) xs ≡ true
+    unfolding outOfList
+    off-list h = le-leb (length (layoutsAt bytes places)) (getD xs 1 0) (omega (arith, layouts-many places))
+
+    pub on-list : getD xs 1 0 < length places → outOfList (listedLayouts (layoutsAt bytes places)) xs ≡ false
+    unfolding outOfList
+    on-list h = lt-leb (length (layoutsAt bytes places)) (getD xs 1 0) (omega (arith, layouts-many places))
+
+-- a record whose shape is that of its layout
+pub listed-record : (ls : List Listed) (xs : List ℕ) (start : ℕ) (s : Shape) → s ≡ listedShape (getD ls (getD xs 1 0) unlisted) →
+    taken record { serial = getD xs 0 0; layout = getD xs 1 0; shape = s; start = start; count = getD xs 2 0 } ≡ taken (recordBy (listedLayouts ls) xs start)
+unfolding recordBy
+listed-record ls xs start s e = ap taken (λ i. record { serial = getD xs 0 0; layout = getD xs 1 0; shape = e i; start = start; count = getD xs 2 0 })

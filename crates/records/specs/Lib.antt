@@ -1,1 +1,3 @@
 pub mod Head
+pub mod Source
+pub mod List

@@ -2,7 +2,7 @@
 use mathlib.Core.Path.{sym, _∙_}
 use native.Mathlib.Omega.{arith}
 use borrow.Author.Needs.{needs}
-use Rattle.code.proofs.Records.{step-oversize, step-ended, step-inside}
+use Rattle.dump.proofs.Walking.{ready-ended, ready-inside}
 use Rattle.dump.proofs.locate.Statement.{statement}
 use Rattle.dump.proofs.locate.Tie as tie
 
@@ -11,20 +11,18 @@ locate-spec =
     tie.close
     (tie.spec
     -- returns
-    (λ c. sym (step-oversize _ _ (omega arith)))
-    -- returns-2
-    (λ c. sym (step-ended _ _ (omega arith) (omega arith)))
+    (λ c. sym (ready-ended (c .before .before .before .pre) _ (omega arith)))
     -- read-head-requires
     (λ c κs. search needs)
     -- enum-known-record
     (λ c. search needs)
     -- enum-known-offset
     (λ c. search needs)
-    -- returns-3
+    -- returns-2
     (λ c.
     let whole = rw (c .before .record .given .1) at (c .before .before .before .read-head .ensures) in
-    whole ∙ sym (step-inside _ _ (omega arith) (omega arith)))
-    -- returns-4
+    whole ∙ sym (ready-inside (c .before .before .before .before .before .before .before .pre) _ (omega arith)))
+    -- returns-3
     (λ c.
     let broken = rw (c .before .offset .given .1) at (c .before .before .before .read-head .ensures) in
-    broken ∙ sym (step-inside _ _ (omega arith) (omega arith))))
+    broken ∙ sym (ready-inside (c .before .before .before .before .before .before .before .pre) _ (omega arith))))

@@ -1,34 +1,30 @@
 -- `dump::step_at` meets its contract. Assumes nothing.
+use native.Mathlib.Omega.{arith}
+use native.Mathlib.Nat.{sub-zero}
 use borrow.Author.Needs.{needs}
-use Rattle.code.specs.Dump.{cellsOf, outcome, stepValues}
-use Rattle.dump.proofs.Walking.{located-reply}
+use Rattle.dump.proofs.Walking.{opened-ready, opened-few, barred-reply}
 use Rattle.dump.proofs.step_at.Statement.{statement}
 use Rattle.dump.proofs.step_at.Tie as tie
 
 pub step-at-spec : {M : Type 1} → statement M
-unfolding stepValues outcome cellsOf
 step-at-spec =
     tie.close
     (tie.spec
-    -- locate-requires
+    -- open-requires
     (λ c κs. search needs)
-    -- enum-known-record
+    -- enum-known-start
     (λ c. search needs)
-    -- part-requires
-    (λ c κs. search needs)
-    -- shape-of-requires
-    (λ c κs. search needs)
-    -- read-requires
-    (λ c κs. search needs)
-    -- enum-told
+    -- sub-step-in
     (λ c. search needs)
+    -- part-step-in-start
+    (λ c. search needs)
+    -- part-step-in-end
+    (λ c. omega (arith, opened-few (c .before .before .before .before .«open» .ensures) (c .before .before .start .given .1)))
+    -- step-in-requires
+    (λ c κs. rw sub-zero (opened-ready (c .before .before .before .before .before .«open» .ensures) (c .before .before .before .start .given .1)))
     -- enum-known-halt
     (λ c. search needs)
     -- returns
-    (λ c.
-    let found = c .before .before .before .before in
-    cc (located-reply _ _ (rw (found .record .given .1) at (found .before .before .locate .ensures))))
+    (λ c. c .step-in .ensures)
     -- returns-2
-    (λ c. located-reply _ _ (rw (c .enum-told .given .1) at (c .before .before .locate .ensures)))
-    -- returns-3
-    (λ c. located-reply _ _ (rw (c .before .halt .given .1) at (c .before .before .before .locate .ensures))))
+    (λ c. barred-reply (c .before .before .before .«open» .ensures) (c .before .halt .given .1) _))

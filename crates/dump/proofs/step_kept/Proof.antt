@@ -12,11 +12,11 @@ step-kept-spec =
     tie.close
     (tie.spec
     -- locate-requires
-    (λ c κs. search needs)
+    (λ c κs. c .before .before .pre .0)
     -- enum-known-record
     (λ c. search needs)
     -- step-record-requires
-    (λ c κs. search needs)
+    (λ c κs. c .before .before .before .before .before .before .before .pre .1)
     -- enum-told
     (λ c. search needs)
     -- enum-known-halt
@@ -25,8 +25,8 @@ step-kept-spec =
     (λ c.
     let made = c .step-record .ensures in
     let r = c .before .before .before in
-    (made .0 ∙ located-reply _ _ (rw (r .record .given .1) at (r .before .before .locate .ensures)), made .1))
+    (made .0 ∙ located-reply _ _ _ (rw (r .record .given .1) at (r .before .before .locate .ensures)), made .1))
     -- returns-2
-    (λ c. let l = c .before .before in (located-reply _ _ (rw (c .enum-told .given .1) at (l .locate .ensures)), l .before .before .pre))
+    (λ c. let l = c .before .before in (located-reply _ _ _ (rw (c .enum-told .given .1) at (l .locate .ensures)), l .before .before .before .pre .1))
     -- returns-3
-    (λ c. let l = c .before .before .before in (located-reply _ _ (rw (c .before .halt .given .1) at (l .locate .ensures)), l .before .before .pre)))
+    (λ c. let l = c .before .before .before in (located-reply _ _ _ (rw (c .before .halt .given .1) at (l .locate .ensures)), l .before .before .before .pre .1)))

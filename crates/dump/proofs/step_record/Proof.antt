@@ -9,8 +9,6 @@ unfolding stepValues outcome cellsOf
 step-record-spec =
     tie.close
     (tie.spec
-    -- shape-of-requires
-    (λ c κs. search needs)
     -- renew-requires
     (λ c κs. search needs)
     -- part-requires

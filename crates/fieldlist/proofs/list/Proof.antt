@@ -1,64 +1,36 @@
 -- `fieldlist::list` meets its contract. Assumes nothing.
-use mathlib.Core.Path.{_≡_, refl, sym}
-use mathlib.Core.Bool.{false, true≢false}
-use Prim.Native.Nat.{ℕ, _*_, _-_, _≤_}
 use native.Mathlib.Omega.{arith}
+use native.Mathlib.Nat.{sub-zero}
 use borrow.Author.Needs.{needs}
-use lib.ListN.{length, length-take}
-use Rattle.dump.specs.Answers.{dumpMost}
-use Rattle.listing.specs.Listing.{Standing}
-use Rattle.fieldlist.proofs.Pieces.{Handing, handing-begin, next-part, handing-next, handing-end}
+use Rattle.dump.proofs.Walking.{opened-ready, opened-few, opened-start, opened-barred}
 use Rattle.fieldlist.proofs.list.Statement.{statement}
 use Rattle.fieldlist.proofs.list.Tie as tie
-
--- the most bytes of a piece
-abbrev pieceMost : ℕ
-pieceMost = 4096
-
-abbrev Inv-loop : tie.InvT-loop
-Inv-loop dump out₀ s₀ count₀ out s count =
-    (length out ≡ pieceMost) × (s .over ≡ false) × Standing s × (count ≤ pieceMost * s .next) × Handing dump count s
-
-abbrev μ-loop : tie.MeasureT-loop
-μ-loop dump out₀ s₀ count₀ out s count = dumpMost - s .next
 
 pub list-spec : {M : Type 1} → statement M
 list-spec =
     tie.close
     (tie.spec
-    Inv-loop
-    μ-loop
-    -- start-listing-requires
+    -- open-requires
     (λ c κs. search needs)
-    -- loop-holds
-    (λ c. let r = c .start-listing .ensures in (refl, r .3, r .0, omega arith, handing-begin _ (c .start-listing .result) (r .1, r .2, r .3)))
-    -- slice-aggregate-fill
-    (λ c. omega (arith, c .before .loop .inv .0))
-    -- fill-requires
-    (λ c κs. let l = c .before .loop in (l .inv .2, l .inv .1, omega arith))
-    -- array-share-prefix-out
-    (λ c. c .before .fill .ensures .inside)
-    -- slice-aggregate-hand-out
-    (λ c. simp length-take (omega (arith, c .before .before .fill .ensures .inside)))
-    -- hand-out-requires
-    (λ c κs. next-part (c .before .before .before .before .loop .inv .4) (c .before .before .fill .ensures))
+    -- enum-known-start
+    (λ c. search needs)
+    -- sub-list-records
+    (λ c. search needs)
+    -- part-list-records-start
+    (λ c. search needs)
+    -- part-list-records-end
+    (λ c. omega (arith, opened-few (c .before .before .before .before .«open» .ensures) (c .before .before .start .given .1)))
+    -- list-records-requires
+    (λ c κs.
+    let o = c .before .before .before .before .before .«open» .ensures in
+    let e = c .before .before .before .start .given .1 in
+    let s = opened-start o e in
+    (rw sub-zero (opened-ready o e), s .0, omega (arith, s .1, s .2)))
+    -- enum-known-halt
+    (λ c. search needs)
+    -- list-halt-requires
+    (λ c κs. opened-barred (c .before .before .before .«open» .ensures) (c .before .halt .given .1))
     -- returns
-    (λ c q. absurd (true≢false (sym q)))
-    -- add-count
-    (λ c.
-    let f = c .before .before .before .before .fill .ensures in
-    let v = c .before .before .before .before .before .before .loop .inv in
-    omega (arith, f .inside, v .3, v .2 .within))
+    (λ c. c .list-records .ensures)
     -- returns-2
-    (λ c q.
-    let f = c .before .before .before .before .before .before .fill .ensures in
-    handing-end (handing-next (c .before .before .before .before .before .before .before .before .loop .inv .4) f) (c .if2 .taken))
-    -- loop-less
-    (λ c.
-    let f = c .before .before .before .before .before .before .fill .ensures in
-    omega (arith, f .further (c .if2 .left), f .standing .within))
-    -- loop-again
-    (λ c.
-    let f = c .before .before .before .before .before .before .fill .ensures in
-    let v = c .before .before .before .before .before .before .before .before .loop .inv in
-    (search needs, c .if2 .left, f .standing, omega (arith, f .inside, v .3, f .further (c .if2 .left)), handing-next (v .4) f)))
+    (λ c. c .list-halt .ensures))

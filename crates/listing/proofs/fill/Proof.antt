@@ -15,11 +15,11 @@ use Rattle.listing.proofs.fill.Statement.{statement}
 use Rattle.listing.proofs.fill.Tie as tie
 
 abbrev Inv-loop : tie.InvT-loop
-Inv-loop dump out₀ s₀ h₀ kept₀ end₀ out s h kept end =
-    (s .over ≡ false) × (linesMost ≤ length out₀) × Filling dump s₀ out₀ out s end × Planned kept h
+Inv-loop dump kind places out₀ s₀ h₀ kept₀ end₀ out s h kept end =
+    (s .over ≡ false) × (linesMost ≤ length out₀) × Filling kind dump s₀ out₀ out s end × Planned kept h
 
 abbrev μ-loop : tie.MeasureT-loop
-μ-loop dump out₀ s₀ h₀ kept₀ end₀ out s h kept end = dumpMost - s .next
+μ-loop dump kind places out₀ s₀ h₀ kept₀ end₀ out s h kept end = dumpMost - s .next
 
 pub fill-spec : {M : Type 1} → statement M
 fill-spec =
@@ -30,11 +30,11 @@ fill-spec =
     -- keep-none-requires
     (λ c κs. search needs)
     -- loop-holds
-    (λ c. let p = c .before .before .before .pre in (p .1, p .2, filling-begin _ _ _ (p .0), c .keep-none .ensures))
+    (λ c. let p = c .before .before .before .before .pre in (p .2, p .3, filling-begin _ _ _ _ (p .1), c .keep-none .ensures))
     -- sub-loop
     (λ c. search needs)
     -- step-kept-requires
-    (λ c κs. c .before .before .loop .inv .3)
+    (λ c κs. let l = c .before .before in (l .before .before .before .before .before .pre .0, l .loop .inv .3))
     -- tell-step-requires
     (λ c κs.
     let k = c .before .before in

@@ -15,17 +15,17 @@ tell-step-spec =
     -- add-go-on
     (λ c.
     let r = c .before .before in
-    omega (arith, record-further _ _ (r .before .before .before .before .pre .1) (r .step .given .1) .1))
+    omega (arith, record-further _ _ _ (r .before .before .before .before .pre .1) (r .step .given .1) .1))
     -- go-on-requires
     (λ c κs.
     let r = c .before .before in
     let a = r .before .before .before .before in
-    let f = record-further _ _ (a .pre .1) (r .step .given .1) in
+    let f = record-further _ _ _ (a .pre .1) (r .step .given .1) in
     (a .pre .0 .0, f .0, f .1))
     -- tell-outcome-requires
     (λ c κs.
     let r = c .before .before .before .before in
-    (omega arith, record-refusing _ _ (r .before .before .before .before .pre .1) (r .step .given .1)))
+    (omega arith, record-refusing _ _ _ (r .before .before .before .before .pre .1) (r .step .given .1)))
     -- enum-told
     (λ c. search needs)
     -- put-last-line-requires

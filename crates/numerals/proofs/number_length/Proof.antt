@@ -4,7 +4,7 @@ use Prim.Native.Nat.{_+_, _^_, _<_}
 use native.Mathlib.Omega.{arith}
 use borrow.Author.Needs.{needs}
 use lib.ListN.{length}
-use Rattle.code.specs.Dump.{sevens}
+use Rattle.code.specs.Numerals.{sevens}
 use Rattle.code.proofs.Digits.{sevens-last, sevens-next, sevens-few}
 use Rattle.numerals.proofs.number_length.Statement.{statement}
 use Rattle.numerals.proofs.number_length.Tie as tie

@@ -6,7 +6,7 @@ use Prim.Native.Nat.{_+_, _-_, _^_, _≤_}
 use denote.Ref.{now}
 use lib.ListN.{length, take}
 use lib.Seq.{take-length}
-use Rattle.code.specs.Dump.{numeralsOf}
+use Rattle.code.specs.Numerals.{numeralsOf}
 use Rattle.code.proofs.Records.{below-at, length-next, numerals-part, numerals-few}
 use Rattle.numerals.proofs.numbers_length.Statement.{statement}
 use Rattle.numerals.proofs.numbers_length.Tie as tie

@@ -5,7 +5,7 @@ use borrow.Author.Needs.{needs}
 use denote.Ref.{now}
 use lib.ListN.{getD, drop, drop-of-length-le}
 use lib.Seq.{drop-cons}
-use Rattle.code.specs.Dump.{readSevens}
+use Rattle.code.specs.Numerals.{readSevens}
 use Rattle.code.proofs.Numerals.{read-last}
 use Rattle.numerals.proofs.read_number.Statement.{statement}
 use Rattle.numerals.proofs.read_number.Tie as tie

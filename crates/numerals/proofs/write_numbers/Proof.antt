@@ -6,7 +6,7 @@ use Prim.Native.Nat.{_+_, _-_, _^_, _≤_}
 use denote.Ref.{now}
 use lib.ListN.{length, take}
 use lib.Seq.{take-length}
-use Rattle.code.specs.Dump.{numeralsOf}
+use Rattle.code.specs.Numerals.{numeralsOf}
 use Rattle.storing.specs.Put.{Put}
 use Rattle.storing.proofs.Put.{put-then, put-length}
 use Rattle.code.proofs.Records.{below-at, numerals-next, length-next, numerals-part}

@@ -1,17 +1,20 @@
 -- `answers::lines::put_records` meets its contract. Assumes nothing.
 use mathlib.Core.Path.{_≡_}
 use Prim.Native.Nat.{_-_, _≤_}
+use native.Mathlib.Omega.{arith}
 use borrow.Author.Needs.{needs}
 use lib.ListN.{length}
+use Rattle.dump.proofs.Walking.{row-some}
 use Rattle.answers.specs.Bounds.{Fits}
 use Rattle.answers.proofs.lines.put_records.Statement.{statement}
 use Rattle.answers.proofs.lines.put_records.Tie as tie
 
 abbrev Inv-loop : tie.InvT-loop
-Inv-loop out₀ at dump rows count place₀ i₀ out place i = (length out ≡ length out₀) × Fits place out × (i ≤ count)
+Inv-loop out₀ at dump kind rows count width place₀ from₀ i₀ out place from i =
+    (length out ≡ length out₀) × Fits place out × (i ≤ count) × (from ≤ length rows) × (10 ≤ width)
 
 abbrev μ-loop : tie.MeasureT-loop
-μ-loop out₀ at dump rows count place₀ i₀ out place i = count - i
+μ-loop out₀ at dump kind rows count width place₀ from₀ i₀ out place from i = count - i
 
 pub put-records-spec : {M : Type 1} → statement M
 put-records-spec =
@@ -19,9 +22,21 @@ put-records-spec =
     (tie.spec
     Inv-loop
     μ-loop
+    (λ c κs. search needs)
+    -- loop-holds
+    (λ c.
+    let wide = row-some (c .before .before .before .before .args .kind) .0 in
+    (search needs, search needs, search needs, search needs, omega (arith, c .row-length .ensures)))
+    (λ c. search needs)
+    (λ c. search needs)
+    (λ c. search needs)
+    (λ c. search needs)
+    (λ c. search needs)
+    (λ c. search needs)
     (λ c. search needs)
     (λ c. search needs)
     (λ c κs. search needs)
+    (λ c. search needs)
     (λ c. search needs)
     (λ c. search needs)
     (λ c. search needs)

@@ -7,10 +7,10 @@ use Rattle.answers.proofs.protocol.read_numbers.Statement.{statement}
 use Rattle.answers.proofs.protocol.read_numbers.Tie as tie
 
 abbrev Inv-loop : tie.InvT-loop
-Inv-loop s kind count end numbers₀ i₀ numbers i = (length numbers ≡ 5) × (i ≤ count)
+Inv-loop s operation count end numbers₀ i₀ numbers i = (length numbers ≡ 6) × (i ≤ count)
 
 abbrev μ-loop : tie.MeasureT-loop
-μ-loop s kind count end numbers₀ i₀ numbers i = count - i
+μ-loop s operation count end numbers₀ i₀ numbers i = count - i
 
 pub read-numbers-spec : {M : Type 1} → statement M
 read-numbers-spec =

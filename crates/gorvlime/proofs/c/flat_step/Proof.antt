@@ -15,14 +15,14 @@ flat-step-spec =
     (tie.spec
     (λ c. search needs)
     (λ c κs. search needs)
-    -- add-t9
-    (λ c. omega (arith, rw (c .before .before .before .a .given .1) at (c .before .before .before .before .before .pre)))
+    -- add-t10
+    (λ c. let r = c .before .before .before .before in omega (arith, rw (r .a .given .1) at (r .before .before .pre)))
     (λ c. search needs)
     (λ c κs. search needs)
     (λ c. search needs)
     (λ c κs. search needs)
     -- returns
-    (λ c. rw (c .before .before .before .a .given .1) (found-record _ _ _ (c .before .flat-reading .ensures)))
+    (λ c. rw (c .before .before .before .before .a .given .1) (found-record _ _ _ (c .before .before .flat-reading .ensures)))
     -- returns-2
     (λ c. c .no-record .ensures ∙ rw (c .before .enum-told .given .1) (found-none 0))
     -- returns-3

@@ -1,0 +1,9 @@
+pub mod Passing
+pub mod Heads
+pub mod Storing
+pub mod Moving
+pub mod ToOld
+pub mod Keeping
+pub mod ToNew
+pub mod Unique
+pub mod Trips

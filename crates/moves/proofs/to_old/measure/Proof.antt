@@ -1,0 +1,77 @@
+-- `moves::to_old::measure` meets its contract. Assumes nothing.
+use Prim.Native.Nat.{_+_, _-_}
+use mathlib.Core.Path.{_≡_, ap, _∙_}
+use mathlib.Core.List.{[]}
+use native.Mathlib.Omega.{arith}
+use borrow.Author.Needs.{needs}
+use denote.Ref.{now}
+use lib.ListN.{length}
+use Rattle.code.specs.declared.Kind.the-variants.{New}
+use Rattle.code.specs.Dump.{ownLayouts, taken, step}
+use Rattle.code.proofs.Walk.{step-forward}
+use Rattle.moves.proofs.Passing.{at-record, at-end, at-stop, cells-count, passing-stop}
+use Rattle.moves.proofs.Heads.{head-below}
+use Rattle.moves.proofs.Storing.{Measuring, measuring-begin, measuring-next, measuring-end}
+use Rattle.moves.proofs.ToOld.{old-said, old-at}
+use Rattle.moves.proofs.to_old.measure.Statement.{statement}
+use Rattle.moves.proofs.to_old.measure.Tie as tie
+
+abbrev Inv-loop : tie.InvT-loop
+Inv-loop dump places start at₀ total₀ at total = Measuring ownLayouts [] New dump at total
+
+abbrev μ-loop : tie.MeasureT-loop
+μ-loop dump places start at₀ total₀ at total = length dump - at
+
+-- the record at the place, and the total with it
+here : (c : tie.After-record Inv-loop μ-loop) → let l = c .before .before .before in
+    step New (now (l .before .before .before .args .dump)) (l .loop .at) ≡ taken (c .«record» .given .0 .0)
+here c = at-record New _ _ (c .before .before .locate .ensures) (c .«record» .given .1)
+
+next : (c : tie.After-old-length Inv-loop μ-loop) →
+    let r = c .before .before .«record» .given .0 .0 in
+    let l = c .before .before .before .before .before in
+    Measuring ownLayouts [] New (now (l .before .before .before .args .dump)) (r .start + r .count) (l .loop .total + c .old-length .result)
+next c =
+    let e = here (c .before .before) in
+    let l = c .before .before .before .before .before in
+    measuring-next _ _ _ _ _ _ (l .before .before .before .pre) (l .loop .inv) _ e _
+    (c .old-length .ensures _ (cells-count New _ _ _ e) ∙ ap length (old-at [] _ _))
+
+pub measure-spec : {M : Type 1} → statement M
+measure-spec =
+    tie.close
+    (tie.spec
+    Inv-loop
+    μ-loop
+    -- loop-holds
+    (λ c. measuring-begin _ _ _ _ _ _ (c .before .before .pre))
+    -- locate-requires
+    (λ c κs. record { start = c .before .before .before .args .start; opens = c .before .before .before .pre })
+    (λ c. search needs)
+    -- old-length-requires
+    (λ c κs.
+    let e = here (c .before) in
+    let s = c .before .before .before .before .before .before in
+    let f = step-forward New _ _ _ e in
+    (head-below New _ _ _ _ _ (λ i h. omega (arith, s .shared-slice-known .given i)) (s .before .pre) e, omega (arith, f .0, f .2)))
+    -- add-total
+    (λ c. omega (arith, next c .few, step-forward New _ _ _ (here (c .before .before))))
+    -- add-at
+    (λ c. omega (arith, step-forward New _ _ _ (here (c .before .before .before))))
+    -- loop-less
+    (λ c. omega (arith, step-forward New _ _ _ (here (c .before .before .before))))
+    -- loop-again
+    (λ c. next (c .before))
+    (λ c. search needs)
+    -- returns
+    (λ c.
+    let l = c .before .before .before in
+    let end = at-end New _ _ (c .before .before .locate .ensures) (c .enum-told .given .1) in
+    let w = measuring-end _ _ _ _ _ _ (l .before .before .before .pre) (l .loop .inv) end in
+    (w .0, w .1 ∙ ap length (old-said _)))
+    (λ c. search needs)
+    -- returns-2
+    (λ c.
+    let l = c .before .before .before .before in
+    passing-stop (l .loop .inv .pass) (c .before .halt .given .0 .0)
+    (at-stop New _ _ (c .before .before .before .locate .ensures) (c .before .halt .given .1))))

@@ -1,0 +1,129 @@
+// 02, §3, "and back": a new dump that is opened, moved to an old one.
+use crate::Moved;
+use code::Kind;
+use code::Record;
+use dump::Halt;
+use dump::Located;
+ghost use mathlib.Core.Path.{_≡_};
+ghost use mathlib.Core.List.{List, []};
+ghost use Prim.Native.Nat.{ℕ, _+_, _^_, _≤_, _<_};
+ghost use lib.ListN.{length};
+ghost use Rattle.code.specs.declared.Kind.the-variants.{New};
+ghost use Rattle.code.specs.Lists.{Below};
+ghost use Rattle.code.specs.Dump.{recordOf, cellsOf, walk};
+ghost use Rattle.code.specs.NewDump.{stopOf, foreign, toOld, toOldReply, toOldLeaves};
+ghost use Rattle.storing.specs.Put.{Put};
+ghost use Rattle.records.specs.Source.{layoutsAt};
+ghost use Rattle.moves.specs.Answers.{movedOf};
+ghost use Rattle.moves.specs.Passes.{Begins, oldHead, Measures};
+
+// What the first pass comes to: the length of all records moved, or why the walk stops.
+pub enum Measured {
+    Whole(usize),
+    Stopped(Halt),
+}
+
+// The length of a record with the numbers of its layout.
+fn old_length(record: Record) -> usize
+    requires { ⌜ Below (2 ^ 63) (oldHead «record») × («record» .count < 2 ^ 63) ⌝ }
+    ensures { λ r. ⌜ ((cells : List ℕ) → length cells ≡ «record» .count → r ≡ length (recordOf (oldHead «record») cells)) ⌝ }
+{
+    let s = record.shape;
+    let head = [record.serial, s.m, s.t, s.v];
+    records::record_length(&head, record.count)
+}
+
+// The length of all records of a dump once they are moved.
+fn measure(dump: &[u8], places: &[u16], start: usize) -> Measured
+    requires { ⌜ Begins New (now dump) (now places) start ⌝ }
+    ensures { λ r. ⌜ Measures (now (dump .entry)) r ⌝ }
+{
+    let mut at = start;
+    let mut total = 0;
+    loop {
+        match dump::locate(dump, Kind::New, places, at) {
+            Located::Record(record) => {
+                total += old_length(record);
+                at = record.start + record.count;
+            }
+            Located::End => {
+                return Measured::Whole(total);
+            }
+            Located::Stop(halt) => {
+                return Measured::Stopped(halt);
+            }
+        }
+    }
+}
+
+// 02, §3: "12 for a listed form, used or not, that the old dump cannot hold".
+fn has_foreign(dump: &[u8], places: &[u16]) -> bool
+    ensures { λ r. ⌜ r ≡ foreign (layoutsAt (now (dump .entry)) (now (places .entry))) ⌝ }
+{
+    let mut i = 0;
+    while i < places.len() {
+        let shape = records::list::shape_at(dump, places[i] as usize);
+        if 0 < shape.form {
+            return true;
+        }
+        i += 1;
+    }
+    false
+}
+
+// Stores a record with the numbers of its layout at a place of `out`.
+fn put_old(dump: &[u8], record: Record, out: &mut [u8], place: usize) -> usize
+    requires { ⌜ Below (2 ^ 63) (oldHead «record») ⌝ }
+    requires { ⌜ place + length (recordOf (oldHead «record») (cellsOf (now dump) «record»)) ≤ length (now out) ⌝ }
+    ensures { λ r. ⌜ Put (now (out .entry)) (now (out .exit)) place (recordOf (oldHead «record») (cellsOf (now (dump .entry)) «record»)) r ⌝ }
+{
+    let s = record.shape;
+    let head = [record.serial, s.m, s.t, s.v];
+    crate::put_moved(dump, record, &head, out, place)
+}
+
+// Stores all records of a dump at the front of `out`.
+fn put_records(dump: &[u8], places: &[u16], start: usize, out: &mut [u8]) -> usize
+    requires { ⌜ Begins New (now dump) (now places) start × (stopOf (walk New (now dump)) ≡ []) ⌝ }
+    requires { ⌜ length (toOld (now dump)) ≤ length (now out) ⌝ }
+    ensures { λ r. ⌜ Put (now (out .entry)) (now (out .exit)) 0 (toOld (now (dump .entry))) r ⌝ }
+{
+    let mut at = start;
+    let mut place = 0;
+    loop {
+        match dump::locate(dump, Kind::New, places, at) {
+            Located::Record(record) => {
+                place = put_old(dump, record, out, place);
+                at = record.start + record.count;
+            }
+            Located::End => {
+                return place;
+            }
+            // The first pass met none.
+            Located::Stop(_) => {
+                return place;
+            }
+        }
+    }
+}
+
+// Moves a dump that is opened: its records begin at `start`.
+pub fn move_records(dump: &[u8], places: &[u16], start: usize, out: &mut [u8]) -> Moved
+    requires { ⌜ Begins New (now dump) (now places) start ⌝ }
+    ensures { λ r. ⌜ movedOf r ≡ toOldReply (now (dump .entry)) (now (out .entry)) ⌝ }
+    ensures { λ r. ⌜ now (out .exit) ≡ toOldLeaves (now (dump .entry)) (now (out .entry)) ⌝ }
+{
+    match measure(dump, places, start) {
+        Measured::Whole(total) => {
+            if has_foreign(dump, places) {
+                return Moved::Refused(12);
+            }
+            let refusal = crate::refuse_length(total, out.len());
+            if refusal != 0 {
+                return Moved::Refused(refusal);
+            }
+            Moved::Stored(put_records(dump, places, start, out))
+        }
+        Measured::Stopped(halt) => crate::stop_move(halt),
+    }
+}
