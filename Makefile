@@ -18,7 +18,7 @@ test:
 	@rt staticlib gorvlime
 	@tests/run-calls
 	@tests/run-hex
-	@tools/frames target/staticlib/libgorvlime.a --limit 1500 --limit gorvlime_layout=496
+	@tools/frames target/staticlib/libgorvlime.a --limit 1700 --limit gorvlime_layout=496 --limit gorvlime_move_to_new=2400
 	@tests/crosscheck $(CALLS)
 	@rt ci
 

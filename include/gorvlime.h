@@ -26,7 +26,8 @@
  * - Lend no null pointer, not even with a count of 0, and no output that overlaps what is read. Not a byte more is read or
  *   stored than is lent.
  * - There is no state, no heap and no lock: calls may run at once on different memory.
- * - The archive libgorvlime.a is for 64-bit x86 and its System V calling convention. Of other code it needs `memcpy` at most.
+ * - The archive libgorvlime.a is for 64-bit x86 and its System V calling convention. Of other code it needs at most
+ *   `memcpy` and `memset`.
  * - As that convention allows, a call uses the 128 bytes below the stack pointer and the SSE registers. An interrupt handler
  *   that interrupts a call, or makes one, has to leave both as it found them.
  */
