@@ -13,7 +13,7 @@ ghost use mathlib.Core.Bool.{true};
 ghost use mathlib.Core.List.{[], _∷_, _++_};
 ghost use Prim.Native.Nat.{_+_, _≤_};
 ghost use lib.ListN.{length, take, replicate};
-ghost use Rattle.code.specs.declared.Kind.the-variants.{New};
+ghost use Rattle.code.specs.declared.Kind.the-variants.{Old, New};
 ghost use Rattle.code.specs.Calls.{filled};
 ghost use Rattle.code.specs.Dump.{openReply, step, taken, stepValues, stepReply, rowNumbers, rowLength, walkReply, walkLeaves};
 ghost use Rattle.storing.specs.Put.{Put};
@@ -277,7 +277,53 @@ struct Row {
     numbers: [u64; ROW_MOST],
 }
 
-// The row of a record by the numbers of its reading, 0 where that lacks one.
+// The rows of both kinds, by the numbers of the reading, 0 where that lacks one.
+fn old_row(record: Record, refused: u64, generation: u64, number: u64, left: u64) -> Row
+    ensures { λ r. ⌜ take 10 (r .numbers) ≡ rowNumbers Old «record» ++ (refused ∷ generation ∷ number ∷ left ∷ []) ⌝ }
+{
+    let s = record.shape;
+    let start = record.start as u64;
+    let count = record.count as u64;
+    let numbers = [
+        record.serial,
+        s.m,
+        s.t,
+        s.v,
+        start,
+        count,
+        refused,
+        generation,
+        number,
+        left,
+        0,
+        0,
+    ];
+    Row { numbers }
+}
+
+fn new_row(record: Record, refused: u64, generation: u64, number: u64, left: u64) -> Row
+    ensures { λ r. ⌜ r .numbers ≡ rowNumbers New «record» ++ (refused ∷ generation ∷ number ∷ left ∷ []) ⌝ }
+{
+    let s = record.shape;
+    let start = record.start as u64;
+    let count = record.count as u64;
+    let numbers = [
+        record.serial,
+        record.layout,
+        s.form,
+        s.m,
+        s.t,
+        s.v,
+        start,
+        count,
+        refused,
+        generation,
+        number,
+        left,
+    ];
+    Row { numbers }
+}
+
 fn fill_row(
     kind: Kind,
     record: Record,
@@ -288,46 +334,9 @@ fn fill_row(
 ) -> Row
     ensures { λ r. ⌜ take (rowLength kind) (r .numbers) ≡ rowNumbers kind «record» ++ (refused ∷ generation ∷ number ∷ left ∷ []) ⌝ }
 {
-    let serial = record.serial;
-    let s = record.shape;
-    let start = record.start as u64;
-    let count = record.count as u64;
     match kind {
-        Kind::Old => {
-            let numbers = [
-                serial,
-                s.m,
-                s.t,
-                s.v,
-                start,
-                count,
-                refused,
-                generation,
-                number,
-                left,
-                0,
-                0,
-            ];
-            Row { numbers }
-        }
-        Kind::New => {
-            let layout = record.layout;
-            let numbers = [
-                serial,
-                layout,
-                s.form,
-                s.m,
-                s.t,
-                s.v,
-                start,
-                count,
-                refused,
-                generation,
-                number,
-                left,
-            ];
-            Row { numbers }
-        }
+        Kind::Old => old_row(record, refused, generation, number, left),
+        Kind::New => new_row(record, refused, generation, number, left),
     }
 }
 
