@@ -1,5 +1,5 @@
 # demo and test do all the set-up that a fresh machine needs.
-.PHONY: demo test crosscheck bench
+.PHONY: demo test crosscheck triangle bench
 CALLS = 200000
 
 demo:
@@ -11,11 +11,12 @@ test:
 	@rt fmt --check
 	@tests/run-docs
 	@cd second && cargo test --release --offline --quiet && cargo build --release --offline --quiet
-	@rt check fieldlist gorvlime answers
+	@rt check fieldlist gorvlime answers handbook
 	@tests/run-listings
 	@tests/run-descriptors
 	@tests/run-values
 	@rt staticlib gorvlime
+	@tests/run-triangle
 	@tests/run-calls
 	@tests/run-hex
 	@tools/frames target/staticlib/libgorvlime.a --limit 1700 --limit gorvlime_layout=496 --limit gorvlime_move_to_new=2400
@@ -28,6 +29,10 @@ crosscheck:
 	@rt check answers
 	@rt staticlib gorvlime
 	@tests/crosscheck $(CALLS)
+
+triangle:
+	@rt check handbook
+	@tools/run handbook
 
 bench:
 	@tools/setup

@@ -20,6 +20,7 @@ const USAGE: &str = "usage:
   second compare STREAM ANSWERS    compare answers to a stream with those given here
   second fieldlist [--new]         list the dump on standard input, an old or a new one
   second values                    print the paper's figures as the conditions give them
+  second triangle                  print the binomials C(n, k), rows 0 to 60
   second sample [--new]            make the sample dump, the old or the new one
 With --large behind their name, answers, stream and compare go by the larger limits.
 ";
@@ -30,6 +31,7 @@ enum Command {
     Compare(Limits, Compared),
     FieldList(Kind),
     Values,
+    Triangle,
     Sample(Kind),
 }
 
@@ -92,6 +94,7 @@ fn command_of(words: &[&str]) -> Option<Command> {
         ["fieldlist"] => Some(Command::FieldList(Kind::Old)),
         ["fieldlist", "--new"] => Some(Command::FieldList(Kind::New)),
         ["values"] => Some(Command::Values),
+        ["triangle"] => Some(Command::Triangle),
         ["sample"] => Some(Command::Sample(Kind::Old)),
         ["sample", "--new"] => Some(Command::Sample(Kind::New)),
         _ => None,
@@ -124,6 +127,10 @@ fn run(command: Command) -> io::Result<ExitCode> {
         }
         Command::Values => {
             printed.write_all(values::figures(&mut Layouts::default()).as_bytes())?;
+            ExitCode::SUCCESS
+        }
+        Command::Triangle => {
+            printed.write_all(values::triangle().as_bytes())?;
             ExitCode::SUCCESS
         }
         Command::Sample(kind) => {

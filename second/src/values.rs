@@ -1,8 +1,12 @@
 //! 003's figures as the conditions give them, to be laid beside the paper.
 
+use crate::counting::Counting;
 use crate::layout::{Layout, Layouts, Shape, GROUPS_OFFERED};
 
 const PUBLISHED_RANGE: u64 = 1 << 56;
+
+/// "rows 0 to 60" of the binomials, the largest of which has 57 bits.
+const LAST_ROW: usize = 60;
 
 /// One line `m t v: list, wits` for Example 1, then for each column of Table I
 /// (m 2 and v 2^56, t from 2 to 10), then for the 56 bits written twice at m 3
@@ -28,4 +32,18 @@ fn figure(m: u64, t: u64, layouts: &mut Layouts) -> String {
 pub fn list(layout: &Layout) -> String {
     let counts = layout.counts().iter().map(|count| count.to_string());
     counts.collect::<Vec<String>>().join(" ")
+}
+
+/// The binomials, one line `n: C(n, 0) .. C(n, n)` for each row.
+pub fn triangle() -> String {
+    let counting = &mut Counting::default();
+    (0..=LAST_ROW).map(|n| row(n, counting)).collect()
+}
+
+fn row(n: usize, counting: &mut Counting) -> String {
+    let numbers = (0..=n).map(|k| {
+        let number = counting.choose(n, k).to_u64();
+        number.map_or_else(String::new, |number| number.to_string())
+    });
+    format!("{}: {}\n", n, numbers.collect::<Vec<String>>().join(" "))
 }

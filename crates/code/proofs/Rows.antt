@@ -1,5 +1,5 @@
 -- Granted lists by the rows of Pascal's triangle, which compute in few steps.
-use Prim.Native.Nat.{ℕ, zero, suc, _+_, _*_, _-_, _^_, _≤_}
+use Prim.Native.Nat.{ℕ, zero, suc, _+_, _*_, _-_, _^_, _≤_, _<_}
 use mathlib.Core.Path.{_≡_, refl, sym, ap, _∙_}
 use mathlib.Core.Bool.{Bool, true, false}
 use mathlib.Core.List.{List, [], _∷_}
@@ -56,7 +56,7 @@ rowed-drop n k zero xs r = rw (add-zero k) r
 rowed-drop n k (suc i) [] r = tt
 rowed-drop n k (suc i) (x ∷ xs) r = let q : k + suc i ≡ suc k + i = omega arith in rw q (rowed-drop n (suc k) i xs (r .1))
 
-row-length : (n d : ℕ) → length (row n d) ≡ suc d
+pub row-length : (n d : ℕ) → length (row n d) ≡ suc d
 unfolding row along
 row-length zero d = ap suc (length-replicate d 0)
 row-length (suc n) d = along-length 0 (row n d) ∙ row-length n d
@@ -64,6 +64,16 @@ row-length (suc n) d = along-length 0 (row n d) ∙ row-length n d
     along-length : (prev : ℕ) (xs : List ℕ) → length (along prev xs) ≡ length xs
     along-length prev [] = refl
     along-length prev (x ∷ xs) = ap suc (along-length x xs)
+
+-- so a number of the row is a binomial
+rowed-at : (n k : ℕ) (xs : List ℕ) (i : ℕ) → Rowed n k xs → i < length xs → getD xs i 0 ≡ choose n (k + i)
+unfolding Rowed
+rowed-at n k [] i r h = absurd (omega arith)
+rowed-at n k (x ∷ xs) zero r h = rw (add-zero k) (r .0)
+rowed-at n k (x ∷ xs) (suc i) r h = let q : k + suc i ≡ suc k + i = omega arith in rw q (rowed-at n (suc k) xs i (r .1) (omega arith))
+
+pub row-at : (n d k : ℕ) → k ≤ d → getD (row n d) k 0 ≡ choose n k
+row-at n d k h = rw zero-add at (rowed-at n 0 (row n d) k (row-rowed n d) (omega (arith, row-length n d)))
 
 weigh-is : (b s k : ℕ) (xs : List ℕ) (first : ℕ) → first ≤ k → Rowed s k xs → fewer b s first k + weigh b (b ^ k) xs ≡ fewer b s first (k + length xs)
 unfolding Rowed weigh

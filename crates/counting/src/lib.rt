@@ -1,4 +1,4 @@
-// Binomials and sums of patterns with no table. A value at or above 2^56 + 1 is given as 2^56 + 1.
+// Binomials, up to row 60 from the stored triangle, and sums of patterns. A value at or above 2^56 + 1 is given as 2^56 + 1.
 ghost use mathlib.Core.Path.{_≡_};
 ghost use Prim.Native.Nat.{suc, _-_, _*_, _/_, _^_, _<_, _≤_};
 ghost use Rattle.code.specs.Count.{choose, fewer};
@@ -10,11 +10,25 @@ pub const CAP: u64 = 0x0100_0000_0000_0001;
 // A binomial below it takes two factors more before it is divided.
 const WIDE: u64 = 0x0001_0000_0000_0000;
 
+// C(n, k) of a stored row: "C(n, k) is 0 where k is above n".
+fn look_up(n: u64, k: u64) -> u64
+    requires { ⌜ n ≤ 60 ⌝ }
+    ensures { λ r. ⌜ r ≡ choose n k ⌝ }
+{
+    if n < k {
+        return 0;
+    }
+    triangle::stored(n, k)
+}
+
 // C(n, k). No binomial on the way to the nearer half is larger.
 pub fn binomial(n: u64, k: u64) -> u64
     requires { ⌜ n ≤ 256 ⌝ }
     ensures { λ r. ⌜ r ≡ sat (choose n k) ⌝ }
 {
+    if n <= triangle::LAST_ROW {
+        return clip(look_up(n, k));
+    }
     if n < k {
         return 0;
     }
@@ -187,6 +201,9 @@ pub fn lower(c: u64, n: u64, k: u64) -> u64
     requires { ⌜ (0 < k) × (k ≤ n) × (n ≤ 256) × (c < cap) × (c ≡ choose n k) ⌝ }
     ensures { λ r. ⌜ r ≡ choose (n - 1) k ⌝ }
 {
+    if n - 1 <= triangle::LAST_ROW {
+        return look_up(n - 1, k);
+    }
     c * (n - k) / n
 }
 
@@ -195,6 +212,9 @@ pub fn inner(c: u64, n: u64, k: u64) -> u64
     requires { ⌜ (0 < k) × (k ≤ suc n) × (0 < n) × (n ≤ 255) × (c < cap) × (c ≡ choose n k) ⌝ }
     ensures { λ r. ⌜ r ≡ choose (n - 1) (k - 1) ⌝ }
 {
+    if n - 1 <= triangle::LAST_ROW {
+        return look_up(n - 1, k - 1);
+    }
     c * k / n
 }
 

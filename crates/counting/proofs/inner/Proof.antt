@@ -9,9 +9,19 @@ pub inner-spec : {M : Type 1} → statement M
 inner-spec =
     tie.close
     (tie.spec
+    -- sub-if1
+    (λ c. search needs)
+    -- sub-look-up
+    (λ c. search needs)
+    -- sub-look-up-2
+    (λ c. search needs)
+    -- look-up-requires
+    (λ c κs. search needs)
+    -- returns
+    (λ c. c .look-up .ensures)
     -- mul-result
-    (λ c. let a = c .args in omega (arith, inner-room (a .n) (a .k) (a .c) (omega arith) (c .pre .5) (omega arith) (omega arith) (omega arith)))
+    (λ c. let s = c .before in let a = s .args in omega (arith, inner-room (a .n) (a .k) (a .c) (omega arith) (s .pre .5) (omega arith) (omega arith) (omega arith)))
     -- div-result
     (λ c. search needs)
-    -- returns
-    (λ c. let a = c .args in inner-is (a .n) (a .k) (a .c) (omega arith) (c .pre .5) (omega arith) (omega arith)))
+    -- returns-2
+    (λ c. let s = c .before in let a = s .args in inner-is (a .n) (a .k) (a .c) (omega arith) (s .pre .5) (omega arith) (omega arith)))

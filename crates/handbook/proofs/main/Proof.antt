@@ -1,0 +1,24 @@
+-- `handbook::main` meets its contract: every row is one that is stored. Assumes nothing.
+use Prim.Native.Nat.{_-_, _≤_}
+use borrow.Author.Needs.{needs}
+use Rattle.handbook.proofs.main.Statement.{statement}
+use Rattle.handbook.proofs.main.Tie as tie
+
+abbrev Inv-loop : tie.InvT-loop
+Inv-loop n₀ n = n ≤ 61
+
+abbrev μ-loop : tie.MeasureT-loop
+μ-loop n₀ n = 61 - n
+
+pub main-spec : {M : Type 1} → statement M
+main-spec =
+    tie.close
+    (tie.spec
+    Inv-loop
+    μ-loop
+    (λ c. search needs)
+    (λ c κs. search needs)
+    (λ c. search needs)
+    (λ c. search needs)
+    (λ c. search needs)
+    (λ c. search needs))
