@@ -4,12 +4,12 @@ use mathlib.Core.Logic.{_⊎_, inl, inr}
 use mathlib.Core.List.{List}
 use Prim.Native.Nat.{ℕ, zero, suc, _+_, _*_, _-_, _/_, _%_, _≤_, _<_}
 use native.Mathlib.Omega.{arith}
-use native.Mathlib.Nat.{add-zero, add-suc, add-comm, sub-self}
+use native.Mathlib.Nat.{add-comm, sub-self}
 use lib.Bits.{bitOr, or-add-and, and-le-l}
 use lib.Count.{ones, onesIn, ones-step}
 use lib.ListN.{length}
 use Rattle.code.specs.Cells.{wit, value, sum, turned}
-use Rattle.code.proofs.Numbers.{or-snoc}
+use Rattle.code.proofs.Numbers.{sum-split, or-snoc}
 use Rattle.code.proofs.Wits.{wit-lt, wit-past}
 use Rattle.cells.specs.Cells.{PutWits}
 
@@ -35,11 +35,6 @@ ones-turned f g p (suc n) a b =
     let e : bitOr (2 * w + y) (2 * v + x) - (2 * v + x) ≡ 2 * (bitOr w v - v) + (y - x) =
     rw (or-snoc w y v x (b (p + n)) (a (p + n))) (omega (arith, or-above w v, a (p + n), b (p + n))) in
     rw e (ones-snoc (bitOr w v - v) (y - x) (omega (arith, b (p + n))) ∙ rw (ones-turned f g p n a b))
-
-sum-split : (f : ℕ → ℕ) (a b : ℕ) → sum f (a + b) ≡ sum f a + sum (λ k. f (a + k)) b
-unfolding sum
-sum-split f a zero = rw (add-zero a) (omega arith)
-sum-split f a (suc b) = rw (add-suc a b) (omega (arith, sum-split f a b))
 
 sum-none : (f : ℕ → ℕ) (n : ℕ) → ((k : ℕ) → k < n → f k ≡ 0) → sum f n ≡ 0
 unfolding sum

@@ -5,10 +5,10 @@ use mathlib.Core.List.{List, [], _∷_}
 use lib.ListN.{replicate}
 use Rattle.code.specs.Calls.{refusal, answer, leaves}
 use Rattle.code.specs.Dump.{ascii}
-use Rattle.code.specs.Hex.{hexDigit, hexDigits, byteSum, sumByte, hexLine, dataLine, dataLines, endRecord, hexText}
+use Rattle.code.specs.Hex.{hexDigit, hexDigits, sumByte, hexLine, dataLine, dataLines, endRecord, hexText}
 use Rattle.code.specs.Hex.{hexExportRefusal, hexExportReply, hexExportLeaves, digitNumber, spelledByte, spelledBytes, lineBytes}
 use Rattle.code.specs.Hex.{dataCount, dataAddress, lineType, lineData, lineEnd, behindBytes, nextLine, allSpelled, misshapen, ladenEnd, wrongSum}
-use Rattle.code.specs.Lists.{same}
+use Rattle.code.specs.Lists.{same, listSum}
 use Rattle.code.specs.Hex.{displaced, lineRefusal, isEnd, gives, closed, importFrom, hexImport, bytesOf, importRefusal, hexImportReply}
 use Rattle.code.specs.Hex.{hexImportLeaves}
 
@@ -24,7 +24,7 @@ pub exported :
     × (hexExportReply (0x4F ∷ []) (replicate 25 0) ≡ 9 ∷ [])
     × (hexExportLeaves (0x4F ∷ []) (7 ∷ []) ≡ 7 ∷ [])
     × (hexExportLeaves [] (replicate 13 7) ≡ ascii ":00000001FF\n\u{7}")
-unfolding ascii refusal answer leaves hexDigit hexDigits byteSum sumByte hexLine dataLine dataLines endRecord hexText hexExportRefusal hexExportReply hexExportLeaves
+unfolding ascii refusal answer leaves hexDigit hexDigits listSum sumByte hexLine dataLine dataLines endRecord hexText hexExportRefusal hexExportReply hexExportLeaves
 exported = (refl, refl, refl, refl, refl, refl, refl)
 
 -- an import's reply with room for 300 bytes
@@ -38,7 +38,7 @@ pub accepted :
     × (imported (ascii ":00000001fF\r\n") ≡ 0 ∷ 0 ∷ [])
     × (imported (ascii ":00123400ba\n:010000004fB0\r\n:00000001ff\n") ≡ 0 ∷ 1 ∷ [])
     × (hexImportLeaves (ascii ":020000004F505F\n:00000001FF\n") (7 ∷ 8 ∷ 9 ∷ []) ≡ 0x4F ∷ 0x50 ∷ 9 ∷ [])
-unfolding ascii refusal answer leaves digitNumber spelledByte spelledBytes lineBytes dataCount dataAddress lineType lineData lineEnd behindBytes nextLine allSpelled misshapen ladenEnd wrongSum displaced lineRefusal same isEnd closed importFrom hexImport bytesOf importRefusal hexImportReply hexImportLeaves byteSum endRecord
+unfolding ascii refusal answer leaves digitNumber spelledByte spelledBytes lineBytes dataCount dataAddress lineType lineData lineEnd behindBytes nextLine allSpelled misshapen ladenEnd wrongSum displaced lineRefusal same isEnd closed importFrom hexImport bytesOf importRefusal hexImportReply hexImportLeaves listSum endRecord
 accepted = (refl, refl, refl, refl, refl)
 
 -- shape: no line feed, a lone carriage return, two of them, an empty line, a blank, a count above the data; a type 01 with data or an address
@@ -52,7 +52,7 @@ pub shapes :
     × (imported (ascii ":00000101FE\n") ≡ 20 ∷ [])
     × (imported (ascii ":0100000141BD\n") ≡ 20 ∷ [])
     × (imported (ascii ":0100000141BE\n") ≡ 20 ∷ [])
-unfolding ascii refusal answer leaves digitNumber spelledByte spelledBytes lineBytes dataCount dataAddress lineType lineData lineEnd behindBytes nextLine allSpelled misshapen ladenEnd wrongSum displaced lineRefusal same isEnd closed importFrom hexImport bytesOf importRefusal hexImportReply byteSum endRecord
+unfolding ascii refusal answer leaves digitNumber spelledByte spelledBytes lineBytes dataCount dataAddress lineType lineData lineEnd behindBytes nextLine allSpelled misshapen ladenEnd wrongSum displaced lineRefusal same isEnd closed importFrom hexImport bytesOf importRefusal hexImportReply listSum endRecord
 shapes = (refl, refl, refl, refl, refl, refl, refl, refl, refl)
 
 -- sums; addresses; an end that is missing; other types and text behind the end; a short output
@@ -68,5 +68,5 @@ pub others :
     × (imported (ascii ":00000001FF\n\n") ≡ 24 ∷ [])
     × (imported (ascii ":00000001FF\nno line at all") ≡ 24 ∷ [])
     × (hexImportReply (ascii ":020000004F505F\n:00000001FF\n") (7 ∷ []) ≡ 9 ∷ [])
-unfolding ascii refusal answer leaves digitNumber spelledByte spelledBytes lineBytes dataCount dataAddress lineType lineData lineEnd behindBytes nextLine allSpelled misshapen ladenEnd wrongSum displaced lineRefusal same isEnd closed importFrom hexImport bytesOf importRefusal hexImportReply byteSum endRecord
+unfolding ascii refusal answer leaves digitNumber spelledByte spelledBytes lineBytes dataCount dataAddress lineType lineData lineEnd behindBytes nextLine allSpelled misshapen ladenEnd wrongSum displaced lineRefusal same isEnd closed importFrom hexImport bytesOf importRefusal hexImportReply listSum endRecord
 others = (refl, refl, refl, refl, refl, refl, refl, refl, refl, refl, refl)

@@ -8,10 +8,10 @@ use lib.ListN.{length, take, drop, length-append, length-take, length-drop, take
 use lib.Seq.{take-take, take-length, take-append-seam}
 use lib.Dec.{ltb}
 use borrow.Author.Tests.{ne-eqb, ltb-true}
-use Rattle.code.specs.Lists.{Below}
+use Rattle.code.specs.Lists.{Below, listSum}
 use Rattle.code.specs.Calls.{refusal}
 use Rattle.code.specs.Dump.{ascii}
-use Rattle.code.specs.Hex.{byteSum, dataLine, dataLines, lineCount, endRecord, hexText, digitNumber, spelledByte, spelledBytes, lineBytes}
+use Rattle.code.specs.Hex.{dataLine, dataLines, lineCount, endRecord, hexText, digitNumber, spelledByte, spelledBytes, lineBytes}
 use Rattle.code.specs.Hex.{dataCount, dataAddress, lineType, lineData, lineEnd, behindBytes, nextLine, allSpelled, misshapen, ladenEnd, wrongSum}
 use Rattle.code.specs.Lists.{same}
 use Rattle.code.specs.Hex.{displaced, lineRefusal, isEnd, Import, faulty, gives, closed, importFrom, hexImport, bytesOf}
@@ -88,7 +88,7 @@ data-taken done bytes rest u few low h =
 
 -- the end record closes
 end-closes : (done : List ℕ) → importOn done endRecord ≡ gives done
-unfolding endRecord ascii refusal digitNumber spelledByte spelledBytes lineBytes dataCount dataAddress lineType lineEnd behindBytes nextLine allSpelled misshapen ladenEnd wrongSum displaced lineRefusal same isEnd closed byteSum
+unfolding endRecord ascii refusal digitNumber spelledByte spelledBytes lineBytes dataCount dataAddress lineType lineEnd behindBytes nextLine allSpelled misshapen ladenEnd wrongSum displaced lineRefusal same isEnd closed listSum
 end-closes done = import-ended done endRecord refl refl
 
 -- lines of data are taken, whatever text stands behind them

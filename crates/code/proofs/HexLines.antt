@@ -12,8 +12,8 @@ use lib.Dec.{leb, ltb, eqb}
 use borrow.Author.Tests.{lt-ltb, le-ltb, le-leb, lt-leb, eq-eqb, ne-eqb, ltb-true, ltb-false, leb-true, eqb-true, eqb-false, not-false}
 use Rattle.code.specs.Calls.{refusal}
 use Rattle.code.specs.Dump.{ascii}
-use Rattle.code.specs.Hex.{byteSum, endRecord, digitNumber, spelledByte, spelledBytes, lineBytes, dataCount, dataAddress, lineType, lineData}
-use Rattle.code.specs.Lists.{same}
+use Rattle.code.specs.Hex.{endRecord, digitNumber, spelledByte, spelledBytes, lineBytes, dataCount, dataAddress, lineType, lineData}
+use Rattle.code.specs.Lists.{same, listSum}
 use Rattle.code.specs.Hex.{lineEnd, behindBytes, nextLine, allSpelled, misshapen, ladenEnd, wrongSum, displaced, lineRefusal, isEnd}
 use Rattle.code.specs.HexLine.{byteAt, lineSize, Shaped}
 use Rattle.code.proofs.Tests.{le-or-lt, both-true, clash}
@@ -300,9 +300,9 @@ module _ (line : List ℕ) where
       let b = both-true (eqb (dataCount line) 0) (eqb (dataAddress line) 0) e in
       (eqb-true (dataCount line) 0 (b .0), eqb-true (dataAddress line) 0 (b .1))
 
-  pub sum-what : wrongSum line ≡ false → byteSum (lineBytes line) % 256 ≡ 0
+  pub sum-what : wrongSum line ≡ false → listSum (lineBytes line) % 256 ≡ 0
   unfolding wrongSum
-  sum-what h = eqb-true (byteSum (lineBytes line) % 256) 0 (not-false _ h)
+  sum-what h = eqb-true (listSum (lineBytes line) % 256) 0 (not-false _ h)
 
   pub placed-what : (n : ℕ) → displaced n line ≡ false → lineType line ≡ 0 → 0 < dataCount line → (dataAddress line ≡ n) × (n + dataCount line ≤ 65536)
   unfolding displaced
@@ -335,13 +335,13 @@ rounds x h e = elim (le-or-lt 255 x) [ inl l ↦ omega arith | inr l ↦ let q :
 
 -- a line of type 01 that passes is the end record, in some letter case
 pub end-told : (n : ℕ) (line : List ℕ) → GoodLine n line → lineType line ≡ 1 → isEnd line ≡ true
-unfolding byteSum lineType dataCount dataAddress
+unfolding listSum lineType dataCount dataAddress
 end-told n line p k =
     let bare = laden-what line (p .bare) k in
     let l = five (lineBytes line) (omega (arith, bytes-length line, bare .0)) in
     let last = spelled-small (lineBytes line) (p .shaped .bytes) 4 (omega (arith, bytes-length line)) in
     let b : getD (lineBytes line) 1 0 ≡ 0 = omega (arith, bare .1) in
     let c : getD (lineBytes line) 2 0 ≡ 0 = omega (arith, bare .1) in
-    let sum : byteSum (lineBytes line) ≡ suc (getD (lineBytes line) 4 0) = ap byteSum l ∙ omega (arith, bare .0) in
+    let sum : listSum (lineBytes line) ≡ suc (getD (lineBytes line) 4 0) = ap listSum l ∙ omega (arith, bare .0) in
     let e = rounds (getD (lineBytes line) 4 0) last (rw sum at (sum-what line (p .summed))) in
     end-listed line (l ∙ rw (bare .0, b, c, k, e))

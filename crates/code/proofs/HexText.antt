@@ -9,9 +9,9 @@ use lib.ListN.{length, take, drop, length-append, length-take, length-drop}
 use lib.Seq.{drop-at, take-at}
 use lib.Dec.{leb, eqb}
 use borrow.Author.Tests.{lt-ltb, le-ltb, le-leb, lt-leb, eq-eqb}
-use Rattle.code.specs.Lists.{Below}
+use Rattle.code.specs.Lists.{Below, listSum}
 use Rattle.code.specs.Dump.{ascii}
-use Rattle.code.specs.Hex.{hexDigit, hexDigits, byteSum, sumByte, hexLine, dataLine, dataLines, lineCount, endRecord, hexText}
+use Rattle.code.specs.Hex.{hexDigit, hexDigits, sumByte, hexLine, dataLine, dataLines, lineCount, endRecord, hexText}
 use Rattle.code.specs.Hex.{digitNumber, spelledByte, spelledBytes, lineBytes, dataCount, dataAddress, lineType, lineData, lineEnd, behindBytes}
 use Rattle.code.specs.Hex.{nextLine, allSpelled, misshapen, wrongSum, lineRefusal, isEnd}
 use Rattle.code.proofs.Tests.{le-or-lt}
@@ -48,8 +48,8 @@ unfolding allSpelled
 below-spelled [] u = refl
 below-spelled (b ∷ bytes) u = rw (lt-ltb b 256 (u .0), below-spelled bytes (u .1))
 
-pub sum-append : (xs ys : List ℕ) → byteSum (xs ++ ys) ≡ byteSum xs + byteSum ys
-unfolding byteSum
+pub sum-append : (xs ys : List ℕ) → listSum (xs ++ ys) ≡ listSum xs + listSum ys
+unfolding listSum
 sum-append [] ys = omega arith
 sum-append (x ∷ xs) ys = omega (arith, sum-append xs ys)
 
@@ -128,9 +128,9 @@ module _ (at : ℕ) (bytes rest : List ℕ) (u : Below 256 bytes) (few : length 
   line-data = rw (line-count, line-bytes) (take-at bytes (sumByte (headed at bytes) ∷ []) (length bytes) refl)
 
   line-summed : wrongSum line ≡ false
-  unfolding wrongSum byteSum sumByte
+  unfolding wrongSum listSum sumByte
   line-summed =
-      let e : byteSum (length bytes ∷ more) % 256 ≡ 0 = omega (arith, sum-append bytes (sumByte (headed at bytes) ∷ [])) in
+      let e : listSum (length bytes ∷ more) % 256 ≡ 0 = omega (arith, sum-append bytes (sumByte (headed at bytes) ∷ [])) in
       rw (line-bytes, e)
 
   pub line-accepted : at + length bytes ≤ 65536 → lineRefusal at line ≡ []

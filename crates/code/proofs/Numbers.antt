@@ -106,6 +106,17 @@ unfolding sum
 sum-difference f g zero e = refl
 sum-difference f g (suc n) e = omega (arith, sum-difference f g n e, e n)
 
+-- a sum in two parts
+pub sum-split : (f : ℕ → ℕ) (a b : ℕ) → sum f (a + b) ≡ sum f a + sum (λ k. f (a + k)) b
+unfolding sum
+sum-split f a zero = rw (add-zero a) (omega arith)
+sum-split f a (suc b) = rw (add-suc a b) (omega (arith, sum-split f a b))
+
+pub sum-same : (f g : ℕ → ℕ) (n : ℕ) → ((k : ℕ) → k < n → f k ≡ g k) → sum f n ≡ sum g n
+unfolding sum
+sum-same f g zero e = refl
+sum-same f g (suc n) e = omega (arith, sum-same f g n (λ k l. e k (omega arith)), e n (omega arith))
+
 pub value-split : (f : ℕ → ℕ) (w a b : ℕ) → value f w (a + b) ≡ value f w a * 2 ^ b + value f (w + a) b
 unfolding value
 value-split f w a zero = rw (add-zero a) (omega arith)

@@ -4,7 +4,7 @@ use mathlib.Core.Bool.{Bool, true, false, cond, not, _&&_}
 use mathlib.Core.List.{List, [], _∷_, _++_}
 use lib.Dec.{leb, ltb, eqb}
 use lib.ListN.{length, getD, take, drop}
-use Rattle.code.specs.Lists.{same}
+use Rattle.code.specs.Lists.{listSum, same}
 use Rattle.code.specs.Calls.{refusal, answer, leaves}
 use Rattle.code.specs.Dump.{ascii}
 
@@ -17,14 +17,9 @@ unfoldable pub hexDigits : List ℕ → List ℕ
 hexDigits [] = []
 hexDigits (b ∷ bytes) = hexDigit (b / 16) ∷ hexDigit (b % 16) ∷ hexDigits bytes
 
--- what bytes add up to
-unfoldable pub byteSum : List ℕ → ℕ
-byteSum [] = 0
-byteSum (b ∷ bytes) = b + byteSum bytes
-
 -- the "sum" of a line: the byte that brings its bytes to a multiple of 256
 unfoldable pub sumByte : List ℕ → ℕ
-sumByte bytes = (256 - byteSum bytes % 256) % 256
+sumByte bytes = (256 - listSum bytes % 256) % 256
 
 -- a line: a colon, the bytes and their sum as digits, a line feed
 unfoldable pub hexLine : List ℕ → List ℕ
@@ -126,7 +121,7 @@ ladenEnd line = eqb (lineType line) 1 && not (eqb (dataCount line) 0 && eqb (dat
 
 -- "21 bad sum"
 unfoldable pub wrongSum : List ℕ → Bool
-wrongSum line = not (eqb (byteSum (lineBytes line) % 256) 0)
+wrongSum line = not (eqb (listSum (lineBytes line) % 256) 0)
 
 -- "22 data outside those addresses", which "start at 0 and run on without a gap to FFFF at most", after so many bytes
 unfoldable pub displaced : ℕ → List ℕ → Bool

@@ -1,5 +1,5 @@
--- Statements about lists of numbers that the theorems cite.
-use Prim.Native.Nat.{ℕ, _≤_, _<_}
+-- What is said of lists of numbers.
+use Prim.Native.Nat.{ℕ, _+_, _≤_, _<_}
 use mathlib.Core.Bool.{Bool, true, false, _&&_}
 use mathlib.Core.List.{List, [], _∷_}
 use lib.Dec.{eqb}
@@ -27,3 +27,8 @@ same [] [] = true
 same [] (y ∷ ys) = false
 same (x ∷ xs) [] = false
 same (x ∷ xs) (y ∷ ys) = eqb x y && same xs ys
+
+-- 02, §1: "sum" of a line, §5: "also in the turned counts": what numbers add up to
+unfoldable pub listSum : List ℕ → ℕ
+listSum [] = 0
+listSum (x ∷ xs) = x + listSum xs

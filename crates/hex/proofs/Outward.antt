@@ -8,7 +8,8 @@ use native.Mathlib.Nat.{sub-zero}
 use native.Mathlib.Numerals.{add-one}
 use lib.ListN.{length, getD, take, drop, length-drop}
 use lib.Seq.{take-suc, take-all, drop-drop}
-use Rattle.code.specs.Hex.{hexDigit, hexDigits, byteSum, sumByte, hexLine, dataLine, dataLines, lineCount, endRecord, hexText}
+use Rattle.code.specs.Hex.{hexDigit, hexDigits, sumByte, hexLine, dataLine, dataLines, lineCount, endRecord, hexText}
+use Rattle.code.specs.Lists.{listSum}
 use Rattle.code.proofs.Tests.{le-or-lt}
 use Rattle.code.proofs.HexText.{sum-append, lines-length}
 use Rattle.code.proofs.HexCalls.{HexExports, export-stored}
@@ -23,13 +24,13 @@ digits-append (x ∷ xs) ys = ap (λ (r : List ℕ). hexDigit (x / 16) ∷ hexDi
 pub digits-next : (bytes : List ℕ) (i : ℕ) → i < length bytes → hexDigits (take (i + 1) bytes) ≡ hexDigits (take i bytes) ++ hexDigits (getD bytes i 0 ∷ [])
 digits-next bytes i h = rw (add-one i, take-suc bytes i 0 h) (digits-append (take i bytes) (getD bytes i 0 ∷ []))
 
-pub sum-next : (bytes : List ℕ) (i : ℕ) → i < length bytes → byteSum (take (i + 1) bytes) ≡ byteSum (take i bytes) + getD bytes i 0
-unfolding byteSum
+pub sum-next : (bytes : List ℕ) (i : ℕ) → i < length bytes → listSum (take (i + 1) bytes) ≡ listSum (take i bytes) + getD bytes i 0
+unfolding listSum
 sum-next bytes i h = rw (add-one i, take-suc bytes i 0 h) (omega (arith, sum-append (take i bytes) (getD bytes i 0 ∷ [])))
 
 -- a data record piece by piece
 pub line-splits : (at : ℕ) (bytes : List ℕ) (sum : ℕ) → let head : List ℕ = length bytes ∷ at / 256 ∷ at % 256 ∷ 0 ∷ [] in
-    sum ≡ (256 - (byteSum head + byteSum bytes) % 256) % 256 →
+    sum ≡ (256 - (listSum head + listSum bytes) % 256) % 256 →
     dataLine at bytes ≡ ((((58 ∷ []) ++ hexDigits head) ++ hexDigits bytes) ++ hexDigits (sum ∷ [])) ++ (10 ∷ [])
 unfolding dataLine hexLine sumByte
 line-splits at bytes sum e =

@@ -4,7 +4,8 @@ use mathlib.Core.Path.{_≡_}
 use mathlib.Core.Bool.{true, false}
 use mathlib.Core.List.{List, [], _∷_}
 use lib.ListN.{length, drop}
-use Rattle.code.specs.Hex.{byteSum, lineBytes, dataCount, nextLine, allSpelled, lineRefusal, isEnd, faulty, gives, hexImport}
+use Rattle.code.specs.Hex.{lineBytes, dataCount, nextLine, allSpelled, lineRefusal, isEnd, faulty, gives, hexImport}
+use Rattle.code.specs.Lists.{listSum}
 use Rattle.code.specs.HexLine.{Shaped, lineSize}
 use Rattle.hex.specs.declared.import.Spelling.{Spelling}
 use Rattle.hex.specs.declared.import.Spelling.the-variants.{Unspelled, Whole}
@@ -19,13 +20,13 @@ use Rattle.hex.specs.declared.import.Checked.the-variants.{Wrong, Right}
 -- what bytes add up to, where digits spell them all
 abbrev pub Sums : List ℕ → Spelling → Type 0
 Sums bytes Unspelled = allSpelled bytes ≡ false
-Sums bytes (Whole n) = (allSpelled bytes ≡ true) × (byteSum bytes ≡ n)
+Sums bytes (Whole n) = (allSpelled bytes ≡ true) × (listSum bytes ≡ n)
 
 -- a line of the right shape with its numbers
 pub record Measured (line : List ℕ) (l : Line) : Type 0 where
   pub shaped : Shaped line
   pub count-told : dataCount line ≡ l .count
-  pub sum-told : byteSum (lineBytes line) ≡ l .sum
+  pub sum-told : listSum (lineBytes line) ≡ l .sum
   pub size-told : lineSize line ≡ l .size
 
 abbrev pub TellsShape : List ℕ → LineShape → Type 0

@@ -3,7 +3,8 @@ ghost use mathlib.Core.Path.{_≡_};
 ghost use mathlib.Core.List.{[], _∷_};
 ghost use Prim.Native.Nat.{_+_, _*_, _<_, _≤_, min};
 ghost use lib.ListN.{length};
-ghost use Rattle.code.specs.Hex.{hexDigit, hexDigits, byteSum, dataLine, dataLines, lineCount, endRecord};
+ghost use Rattle.code.specs.Hex.{hexDigit, hexDigits, dataLine, dataLines, lineCount, endRecord};
+ghost use Rattle.code.specs.Lists.{listSum};
 ghost use Rattle.storing.specs.Put.{Put};
 
 fn hex_digit(x: u8) -> u8
@@ -40,7 +41,7 @@ fn put_all_digits(out: &mut [u8], at: usize, bytes: &[u8]) -> usize
 
 fn byte_sum(bytes: &[u8]) -> u64
     requires { ⌜ length (now bytes) ≤ 255 ⌝ }
-    ensures { λ r. ⌜ (r ≡ byteSum (now (bytes .entry))) × (r ≤ 255 * length (now (bytes .entry))) ⌝ }
+    ensures { λ r. ⌜ (r ≡ listSum (now (bytes .entry))) × (r ≤ 255 * length (now (bytes .entry))) ⌝ }
 {
     let mut sum: u64 = 0;
     let mut i = 0;

@@ -6,19 +6,19 @@ use borrow.Author.Needs.{needs}
 use denote.Ref.{now}
 use lib.ListN.{length, take}
 use lib.Seq.{take-all}
-use Rattle.code.specs.Hex.{byteSum}
+use Rattle.code.specs.Lists.{listSum}
 use Rattle.hex.proofs.Outward.{sum-next}
 use Rattle.hex.proofs.export.byte_sum.Statement.{statement}
 use Rattle.hex.proofs.export.byte_sum.Tie as tie
 
 abbrev Inv-loop : tie.InvT-loop
-Inv-loop bytes sum₀ i₀ sum i = (i ≤ length bytes) × (sum ≤ 255 * i) × (sum ≡ byteSum (take i bytes))
+Inv-loop bytes sum₀ i₀ sum i = (i ≤ length bytes) × (sum ≤ 255 * i) × (sum ≡ listSum (take i bytes))
 
 abbrev μ-loop : tie.MeasureT-loop
 μ-loop bytes sum₀ i₀ sum i = length bytes - i
 
 pub byte-sum-spec : {M : Type 1} → statement M
-unfolding byteSum
+unfolding listSum
 byte-sum-spec =
     tie.close
     (tie.spec
@@ -44,4 +44,4 @@ byte-sum-spec =
     -- returns
     (λ c.
     let bytes = now (c .before .before .args .bytes) in
-    (c .before .loop .inv .2 ∙ ap byteSum (take-all (c .before .loop .i) bytes (c .loop-test .left)), omega arith)))
+    (c .before .loop .inv .2 ∙ ap listSum (take-all (c .before .loop .i) bytes (c .loop-test .left)), omega arith)))

@@ -7,7 +7,8 @@ use borrow.Author.Needs.{needs}
 use denote.Ref.{now}
 use lib.ListN.{take, drop}
 use lib.Seq.{take-all}
-use Rattle.code.specs.Hex.{spelledBytes, allSpelled, byteSum}
+use Rattle.code.specs.Hex.{spelledBytes, allSpelled}
+use Rattle.code.specs.Lists.{listSum}
 use Rattle.code.proofs.HexLines.{spelled-length, behind-colon}
 use Rattle.hex.proofs.Outward.{sum-next}
 use Rattle.hex.proofs.Inward.{spelled-next, not-spelled}
@@ -17,13 +18,13 @@ use Rattle.hex.proofs.import.sum_spelled.Tie as tie
 abbrev Inv-loop : tie.InvT-loop
 Inv-loop line n sum₀ i₀ sum i =
     let front = take i (spelledBytes n (drop 1 line)) in
-    (i ≤ n) × (sum ≤ 255 * i) × (allSpelled front ≡ true) × (byteSum front ≡ sum)
+    (i ≤ n) × (sum ≤ 255 * i) × (allSpelled front ≡ true) × (listSum front ≡ sum)
 
 abbrev μ-loop : tie.MeasureT-loop
 μ-loop line n sum₀ i₀ sum i = n - i
 
 pub sum-spelled-spec : {M : Type 1} → statement M
-unfolding allSpelled byteSum
+unfolding allSpelled listSum
 sum-spelled-spec =
     tie.close
     (tie.spec
