@@ -10,7 +10,7 @@
 #include <stdlib.h>
 #include <string.h>
 
-enum { MOST_BYTES = 262144, MOST_OUTPUT = 262144, OUTPUT_FILL = 0xa5, ROWS_AT_ONCE = 7 };
+enum { MOST_BYTES = 262144, MOST_OUTPUT = 262144, MOST_NUMBERS = 128, OUTPUT_FILL = 0xa5, ROWS_AT_ONCE = 7 };
 
 struct lent {
     size_t count;
@@ -102,6 +102,46 @@ static void answer_write(struct lent *lent)
     struct gorvlime_writing w = CALL(write)(shape, lent->bytes, lent->count, number);
     uint64_t numbers[] = {w.refusal, w.generation, w.turned};
     put_numbers("write", numbers, w.refusal == 0 ? 3 : 1);
+    put_hex(lent->bytes, lent->count);
+    putchar('\n');
+}
+
+/* What the line does not tell: the counts say the same, and all else is 0. */
+static int is_whole(const struct gorvlime_many *w, size_t count)
+{
+    size_t written = w->stopped ? w->field : w->refusal == 0 ? count : 0;
+    uint64_t others = w->stopped ? w->stopped - 1 : w->field;
+    for (size_t i = w->written; i < GORVLIME_MANY; i++)
+        others |= w->generation[i] | w->turned[i];
+    return w->written == written && written <= GORVLIME_MANY && others == 0;
+}
+
+static void put_many(const struct gorvlime_many *w)
+{
+    put_numbers("many", &w->refusal, 1);
+    if (w->stopped)
+        put_numbers(" field", &w->field, 1);
+    else if (w->refusal == 0)
+        put_numbers("", &w->written, 1);
+    for (size_t i = 0; i < w->written; i++) {
+        uint64_t pair[] = {w->generation[i], w->turned[i]};
+        put_numbers("", pair, 2);
+    }
+}
+
+static void answer_write_many(struct lent *lent)
+{
+    uint64_t numbers[MOST_NUMBERS];
+    struct gorvlime_shape shape = get_shape();
+    size_t count = get_count(MOST_NUMBERS);
+    for (size_t i = 0; i < count; i++)
+        numbers[i] = get_number();
+    get_bytes(lent);
+    struct gorvlime_many w = CALL(write_many)(shape, lent->bytes, lent->count, numbers, count);
+    if (is_whole(&w, count))
+        put_many(&w);
+    else
+        fputs("many counts that differ", stdout);
     put_hex(lent->bytes, lent->count);
     putchar('\n');
 }
@@ -292,6 +332,7 @@ int main(void)
         case 10: answer_move_to_old(&lent); break;
         case 11: answer_export_layout(); break;
         case 12: answer_export_record(&lent); break;
+        case 13: answer_write_many(&lent); break;
         default: give_up("no such call");
         }
     }

@@ -1,7 +1,7 @@
 /*
- * What the archive costs beside plain C: all calls on the drives' field, m 2, t 10, v 2^56, reads of it in form 1, reads
- * and writes on the largest fields and on a small one, a dump of full size to HEX and back, a new dump of full size, and
- * dumps of two sizes moved both ways.
+ * What the archive costs beside plain C: all calls on the drives' field, m 2, t 10, v 2^56, 64 of them written at once and
+ * one by one, refused writes, reads in form 1, reads and writes on the largest fields and on a small one, a dump of full
+ * size to HEX and back, a new dump of full size, and dumps of two sizes moved both ways.
  *
  *     bench list               the cases, a line for each: calls in one run of it, records and bytes of the dump that it
  *                              goes through (0 for none), and its name
@@ -35,6 +35,7 @@ struct calls {
     struct gorvlime_counts (*layout)(struct gorvlime_shape, uint64_t);
     struct gorvlime_reading (*read)(struct gorvlime_shape, const uint8_t *, size_t);
     struct gorvlime_writing (*write)(struct gorvlime_shape, uint8_t *, size_t, uint64_t);
+    struct gorvlime_many (*write_many)(struct gorvlime_shape, uint8_t *, size_t, const uint64_t *, size_t);
     struct gorvlime_stored (*export)(uint64_t, uint64_t, uint64_t, uint64_t, const uint8_t *, size_t, uint8_t *, size_t);
     struct gorvlime_walked (*walk)(const uint8_t *, size_t, size_t, uint64_t *, size_t);
     struct gorvlime_walked (*walk_new)(const uint8_t *, size_t, size_t, uint64_t *, size_t);
@@ -45,12 +46,12 @@ struct calls {
 };
 
 static const struct calls plain = {
-    plain_layout, plain_read, plain_write, plain_export, plain_walk,
+    plain_layout, plain_read, plain_write, plain_write_many, plain_export, plain_walk,
     plain_walk_new, plain_move_to_new, plain_move_to_old,
     plain_hex_export, plain_hex_import,
 };
 static const struct calls archive = {
-    gorvlime_layout, gorvlime_read, gorvlime_write, gorvlime_export, gorvlime_walk,
+    gorvlime_layout, gorvlime_read, gorvlime_write, gorvlime_write_many, gorvlime_export, gorvlime_walk,
     gorvlime_walk_new, gorvlime_move_to_new, gorvlime_move_to_old,
     gorvlime_hex_export, gorvlime_hex_import,
 };
@@ -80,7 +81,8 @@ struct dump {
 static struct dump old_dump, half_dump, new_dump, moved_dump, moved_half;
 static uint64_t rows[ROWS];
 static uint8_t text[TEXT];   /* the old dump in HEX */
-static uint8_t out[TEXT];    /* of a HEX call or a move */
+static uint8_t out[TEXT];    /* of a HEX call or a move, or the cells of many fields */
+static uint64_t quarter[GORVLIME_MANY];   /* numbers for as many fields */
 static uint64_t answers;     /* all answers of a run, folded into one number */
 
 struct task {
@@ -119,6 +121,32 @@ static void run_writes(const struct calls *c, const struct task *t)
             fold(c->write(s->shape, cells, s->cells, s->numbers[i][j]).turned);
         fold(cells[i]);
     }
+}
+
+static void run_write_many(const struct calls *c, const struct task *t)
+{
+    size_t cells = GORVLIME_MANY * t->sample->cells;
+    memset(out, 0, cells);
+    struct gorvlime_many w = c->write_many(t->sample->shape, out, cells, quarter, GORVLIME_MANY);
+    for (unsigned i = 0; i < GORVLIME_MANY; i++)
+        fold(w.turned[i]);
+}
+
+static void run_single_writes(const struct calls *c, const struct task *t)
+{
+    size_t cells = t->sample->cells;
+    memset(out, 0, GORVLIME_MANY * cells);
+    for (unsigned i = 0; i < GORVLIME_MANY; i++)
+        fold(c->write(t->sample->shape, out + i * cells, cells, quarter[i]).turned);
+}
+
+/* Refused for the cells, behind the layout; with no generation in the shape refused before it. */
+static void run_refused_writes(const struct calls *c, const struct task *t)
+{
+    struct gorvlime_shape shape = t->sample->shape;
+    shape.t = t->generation;
+    for (unsigned i = 0; i < CHAINS; i++)
+        fold(c->write(shape, out, 0, i).refusal);
 }
 
 static void run_export(const struct calls *c, const struct task *t)
@@ -169,6 +197,10 @@ static const struct task cases[] = {
     {CHAINS, 10, run_reads, &drives, 5, NULL, "read at generation 5"},
     {CHAINS, 10, run_reads, &drives, 10, NULL, "read at generation 10"},
     {CHAINS, 1, run_writes, &drives, 10, NULL, "ten writes"},
+    {1, 1, run_write_many, &drives, 1, NULL, "64 writes at once"},
+    {1, 1, run_single_writes, &drives, 1, NULL, "64 single writes"},
+    {CHAINS, 20, run_refused_writes, &drives, 10, NULL, "write refused with 3"},
+    {CHAINS, 20, run_refused_writes, &drives, 0, NULL, "write refused with 1"},
     {CHAINS, 20, run_export, &drives, 6, NULL, "export"},
     {1, 1, run_walk, &drives, 0, &old_dump, "walk of 1,337 records"},
     {1, 1, run_walk_new, &drives, 0, &new_dump, "walk of 1,680 records of a new dump"},
@@ -261,6 +293,8 @@ static void prepare(unsigned i)
 {
     if (cases[i].sample->numbers[0][0] == 0)
         write_chains(cases[i].sample);
+    for (unsigned j = 0; j < GORVLIME_MANY; j++)
+        quarter[j] = drives.numbers[j % CHAINS][j / CHAINS];
     if (cases[i].dump != NULL && cases[i].dump->count == 0)
         make_dumps();
 }

@@ -84,10 +84,9 @@ uint64_t plain_misfit(const struct field *f, const uint8_t *cells, size_t count)
 {
     if (f->refusal != GORVLIME_ACCEPTED)
         return f->refusal;
-    unsigned wits = f->m * f->h[0];
-    if (count != (wits + 7) / 8)
+    if (count != bytes_of(f))
         return GORVLIME_CELLS;
-    unsigned left_over = 8 * count - wits;
+    unsigned left_over = 8 * count - wits_of(f);
     return cells[count - 1] & ((1u << left_over) - 1) ? GORVLIME_CELLS : GORVLIME_ACCEPTED;
 }
 
@@ -332,22 +331,26 @@ static struct gorvlime_writing next_generation(const struct field *f, struct wor
     return (struct gorvlime_writing){.generation = r.generation + 1};
 }
 
-struct gorvlime_writing plain_write(struct gorvlime_shape shape, uint8_t *cells, size_t cells_count, uint64_t number)
+struct gorvlime_writing plain_write_cells(const struct field *f, uint8_t *cells, size_t count, uint64_t number)
 {
-    struct gorvlime_writing answer = {0};
-    struct field f;
+    struct gorvlime_writing answer = {.refusal = plain_misfit(f, cells, count)};
     struct words w;
-    plain_lay_out(&f, shape);
-    answer.refusal = plain_misfit(&f, cells, cells_count);
-    if (answer.refusal == GORVLIME_ACCEPTED && number >= f.v)
+    if (answer.refusal == GORVLIME_ACCEPTED && number >= f->v)
         answer.refusal = GORVLIME_NUMBER;
     if (answer.refusal != GORVLIME_ACCEPTED)
         return answer;
-    open_cells(&f, cells, cells_count, &w);
-    answer = next_generation(&f, &w);
+    open_cells(f, cells, count, &w);
+    answer = next_generation(f, &w);
     if (answer.refusal != GORVLIME_ACCEPTED)
         return answer;
-    write_words(&f, &w, answer.generation, number);
-    answer.turned = store_cells(&w, cells, cells_count);
+    write_words(f, &w, answer.generation, number);
+    answer.turned = store_cells(&w, cells, count);
     return answer;
+}
+
+struct gorvlime_writing plain_write(struct gorvlime_shape shape, uint8_t *cells, size_t cells_count, uint64_t number)
+{
+    struct field f;
+    plain_lay_out(&f, shape);
+    return plain_write_cells(&f, cells, cells_count, number);
 }

@@ -1,5 +1,6 @@
 /*
- * Counters in write-once cells, as board firmware keeps them: size the cells, write, read back, export, and make a new dump.
+ * Counters in write-once cells, as board firmware keeps them: size the cells, write one or many, read back, export, and make
+ * a new dump.
  *
  *     rt staticlib gorvlime
  *     tools/cc examples/board.c target/staticlib/libgorvlime.a -o target/board
@@ -62,6 +63,22 @@ static void read_counter(const struct drive *d)
         printf("%s: no reading, refusal %" PRIu64 "\n", d->name, reading.refusal);
     else
         printf("%s: the counter is %" PRIu64 ", %" PRIu64 " writes left\n", d->name, reading.number, reading.left);
+}
+
+/* Three new drives whose fields lie end to end. */
+static uint8_t rack[3 * sizeof new_drive.cells];
+
+/* One call for a quarter's numbers. It stops at the first field that is refused; those before it stay written. */
+static void write_quarter(const uint64_t *numbers, size_t count)
+{
+    struct gorvlime_many many = gorvlime_write_many(new_drive.shape, rack, sizeof rack, numbers, count);
+    for (uint64_t i = 0; i < many.written; i++)
+        printf("rack: write %" PRIu64 " of drive %" PRIu64 " is %" PRIu64 ", %" PRIu64 " wits turned\n",
+               many.generation[i], i, numbers[i], many.turned[i]);
+    if (many.stopped)
+        printf("rack: drive %" PRIu64 " is refused with %" PRIu64 "\n", many.field, many.refusal);
+    else if (many.refusal != GORVLIME_ACCEPTED)
+        printf("rack: no drive is written, refusal %" PRIu64 "\n", many.refusal);
 }
 
 /* A record says whose field it is, m, t, v and the cells. It has no place for the form, and is read as form 0. */
@@ -135,6 +152,8 @@ int main(void)
     read_counter(&old_drive);
     write_counter(&old_drive, 1000);
     write_counter(&old_drive, 1001);
+    write_quarter((const uint64_t[]){640, 0, 118204}, 3);
+    write_quarter((const uint64_t[]){655, new_drive.shape.v, 119530}, 3);
     export_counter(&old_drive, 300);
     make_dump();
     list_dump();

@@ -11,20 +11,21 @@
  *     v   range                 2 to 2^56     the numbers are 0 to v - 1
  *
  * Ask gorvlime_layout once how large the field is, keep that many bytes of cells, all zeros at first, and hand them to
- * gorvlime_write and gorvlime_read. gorvlime_export makes a record of a field, records one after the other are a dump, and
- * gorvlime_step and gorvlime_walk list a dump. A new dump says each layout once, in front, and holds fields of every form:
- * gorvlime_export_layout and gorvlime_export_record make it, gorvlime_open_new, gorvlime_step_new and gorvlime_walk_new
- * list it, gorvlime_move_to_new and gorvlime_move_to_old turn one kind of dump into the other. examples/board.c shows all
- * of the board's side on one page.
+ * gorvlime_write and gorvlime_read; gorvlime_write_many writes up to 64 fields of one shape at once. gorvlime_export makes
+ * a record of a field, records one after the other are a dump, and gorvlime_step and gorvlime_walk list a dump. A new dump
+ * says each layout once, in front, and holds fields of every form: gorvlime_export_layout and gorvlime_export_record make
+ * it, gorvlime_open_new, gorvlime_step_new and gorvlime_walk_new list it, gorvlime_move_to_new and gorvlime_move_to_old
+ * turn one kind of dump into the other. examples/board.c shows all of the board's side on one page.
  * gorvlime_hex_export and gorvlime_hex_import turn bytes into Intel HEX and back, for the bench that programs new
  * boards; examples/bench.c does so with a file.
  *
  * For every call:
  * - `refusal` is 0 when the call was accepted. When it is not, all other numbers of the answer are 0 and nothing was stored
- *   in lent memory. Refusal 7 alone tells more: the offset of the malformed record, or 0 for the layout list of a new dump,
- *   and a walk has filled and counts the rows of the records before it.
- * - Lend no null pointer, not even with a count of 0, and no output that overlaps what is read. Not a byte more is read or
- *   stored than is lent.
+ *   in lent memory, with two exceptions. Refusal 7 tells the offset of the malformed record, or 0 for the layout list of a
+ *   new dump, and a walk has filled and counts the rows of the records before it. A gorvlime_write_many that stops at a
+ *   field tells which, and has written the fields before it.
+ * - Lend no null pointer, not even with a count of 0, and no output, nor cells to be written, that overlap what else is
+ *   lent. Not a byte more is read or stored than is lent.
  * - There is no state, no heap and no lock: calls may run at once on different memory.
  * - The archive libgorvlime.a is for 64-bit x86 and its System V calling convention. Of other code it needs at most
  *   `memcpy` and `memset`.
@@ -44,20 +45,22 @@ extern "C" {
 /*
  * Why a call was refused. The tests are made in the order of this list, and the first that holds is the answer. A HEX
  * text is tested line by line: 23, 20, 21, 22, 24 at one line, the same at the next, and 9 when all lines have passed.
- * A move tests 8 a second time, of what it would store: right before 9.
+ * A move tests 8 a second time, of what it would store: right before 9. Write many tests 3 once for all bytes together,
+ * then 3, 6, 4, 5 at one field, and the same at the next when that one is written.
  */
 enum gorvlime_refusal {
     GORVLIME_ACCEPTED = 0,      /* from                  when                                               */
+    GORVLIME_NUMBERS = 14,      /* write many            more than 64 numbers                               */
     GORVLIME_SERIAL = 10,       /* exports of a record   the serial is above 2^63 - 1                       */
     GORVLIME_BOUNDS = 1,        /* all with m, t, v      the form, m, t, v or g is outside its bounds, or   */
                                 /*                       the layout number is above 63                      */
     GORVLIME_NO_ROOM = 2,       /* all with m, t, v      the field needs more than g groups                 */
-    GORVLIME_CELLS = 3,         /* read, write, exports  another count of bytes, or a 1 behind the last wit */
+    GORVLIME_CELLS = 3,         /* read, writes, exports another count of bytes, or a 1 behind the last wit */
                                 /* of a record                                                              */
     GORVLIME_BLANK = 11,        /* read                  the field is of form 1 and nothing is written yet  */
-    GORVLIME_NUMBER = 6,        /* write                 the number is v or more                            */
-    GORVLIME_NO_READING = 4,    /* read, write           the cells have no reading: no writes leave them so */
-    GORVLIME_SPENT = 5,         /* write                 all t generations are written                      */
+    GORVLIME_NUMBER = 6,        /* writes                the number is v or more                            */
+    GORVLIME_NO_READING = 4,    /* read, writes          the cells have no reading: no writes leave them so */
+    GORVLIME_SPENT = 5,         /* writes                all t generations are written                      */
     GORVLIME_TOO_LONG = 8,      /* all with a dump       the dump has more than 65,536 bytes                */
                                 /* HEX export            more than 65,536 bytes                             */
     GORVLIME_MALFORMED = 7,     /* all with a dump       no whole record stands at the offset, or no whole  */
@@ -121,6 +124,36 @@ struct gorvlime_reading gorvlime_read(struct gorvlime_shape shape, const uint8_t
 struct gorvlime_writing { uint64_t refusal, generation, turned; };
 
 struct gorvlime_writing gorvlime_write(struct gorvlime_shape shape, uint8_t *cells, size_t cells_count, uint64_t number);
+
+/*
+ * New numbers in many fields: the same as gorvlime_write for one field after the other up to the first that is refused, and
+ * quicker, since the layout is worked out once.
+ *
+ * Takes the shape that all fields have, their cells end to end, each field in whole bytes, and as many numbers as there are
+ * fields, at most GORVLIME_MANY. No numbers with no cells are accepted too.
+ *
+ *     all written    refusal 0; written, how many fields there are; generation[i] and turned[i] as gorvlime_write answers
+ *                    them for field i
+ *     stopped        refusal 3 (a 1 behind the field's last wit), 6, 4 or 5; stopped 1; field, the refused one, from 0;
+ *                    written, the fields before it, which stay written: as many as `field` says; their generation and turned
+ *     refused        refusal 14, 1, 2 or 3 (the count of bytes is not the fields' together), before any field was written
+ *
+ * What is not named for a case is 0 in it, and so are generation and turned behind the fields written. A field that is
+ * refused and all behind it are as they were. `stopped` tells the two kinds of 3 apart. To go on behind a refused field,
+ * hand in the fields behind it alone: those before it are written.
+ * The answer has 1,056 bytes, which the caller has room for beside what the call itself takes.
+ * Refusals: 14, 1, 2, 3; then at each field 3, 6, 4, 5.
+ */
+#define GORVLIME_MANY 64
+
+struct gorvlime_many {
+    uint64_t refusal, stopped, field, written;
+    uint64_t generation[GORVLIME_MANY];
+    uint64_t turned[GORVLIME_MANY];
+};
+
+struct gorvlime_many gorvlime_write_many(struct gorvlime_shape shape, uint8_t *cells, size_t cells_count,
+                                         const uint64_t *numbers, size_t numbers_count);
 
 /*
  * A record of a field, for a dump.

@@ -248,6 +248,7 @@ int main(int count, char **words)
     check_chains();
     check_published_field();
     check_forms();
+    check_many_fields();
     check_dump_calls();
     check_new_dump_calls();
     check_moves();

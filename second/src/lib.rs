@@ -15,6 +15,7 @@ pub mod field;
 pub mod hex;
 pub mod layout;
 pub mod listing;
+pub mod many;
 pub mod newdump;
 pub mod protocol;
 pub mod refusal;

@@ -22,6 +22,8 @@ pub enum Refusal {
     FormNotHeld = 12,
     /// Of a move to a new dump.
     TooManyLayouts = 13,
+    /// Of a write of many numbers.
+    TooManyNumbers = 14,
     LineShape = 20,
     WrongSum = 21,
     DataOutside = 22,

@@ -37,7 +37,7 @@ fn lines_of(text: &[u8]) -> impl Iterator<Item = &[u8]> {
 #[test]
 fn outputs_at_their_edges() {
     let mut met = HashSet::new();
-    for call in calls(1, Limits::USUAL) {
+    for call in (1..3).flat_map(|seed| calls(seed, Limits::USUAL)) {
         let (what, due, output_length) = match &call {
             Call::HexExport {
                 output_length,
@@ -162,7 +162,7 @@ fn shape_fault(line: &str) -> String {
 #[test]
 fn faults_of_every_kind() {
     let mut met = HashSet::new();
-    for text in texts(3) {
+    for text in (3..5).flat_map(texts) {
         if let Err(refusal) = hex::bytes_of(&text) {
             met.insert(fault(&text, refusal.number()));
         }

@@ -1,10 +1,12 @@
 //! The calls on new dumps as bytes and as lines, and what they export.
 
+#[path = "common/answering.rs"]
+mod answering;
 #[path = "common/octets.rs"]
 mod octets;
 
+use answering::{answered, answered_within, line_of};
 use octets::octets;
-use second::answers;
 use second::layout::{Layouts, Shape};
 use second::newdump::{self, Exported};
 use second::protocol::{Call, Limits, NewDumpCall};
@@ -16,16 +18,6 @@ const SHAPE: Shape = Shape {
     t: 3,
     v: 4,
 };
-
-fn answered_within(limits: Limits, stream: &[u8]) -> String {
-    let mut printed = Vec::new();
-    answers::answer_stream(&mut &stream[..], limits, &mut printed).expect("both are in memory");
-    String::from_utf8(printed).expect("answers are plain text")
-}
-
-fn answered(stream: &[u8]) -> String {
-    answered_within(Limits::USUAL, stream)
-}
 
 fn walk_call(dump: &[u8]) -> Call {
     let dump = dump.to_vec();
@@ -67,10 +59,6 @@ fn exported(serial: u64, number: u64, shape: Shape) -> Exported {
         number,
         shape,
     }
-}
-
-fn line_of(call: Call) -> String {
-    answers::answer(&call, &mut Layouts::default())
 }
 
 #[test]

@@ -87,7 +87,7 @@ fn every_kind_of_answer_is_met_often() {
         }
         for kind in KINDS {
             let count = met.iter().filter(|other| *other == kind).count();
-            let least = if kind.ends_with(" 8") { 1 } else { 20 };
+            let least = if kind.ends_with(" 8") { 1 } else { 15 };
             assert!(count >= least, "{}: {}", kind, count);
         }
         assert!(met.iter().all(|kind| KINDS.contains(&kind.as_str())));

@@ -1,9 +1,12 @@
 //! Calls as bytes, their lines, and the comparison of two sets of answers.
 
-use second::answers;
+#[path = "common/answering.rs"]
+mod answering;
+
+use answering::{answered, answered_within, line_of};
 use second::comparing::{compare, Comparison, Stream};
 use second::dump;
-use second::layout::{Layouts, OldShape, Shape};
+use second::layout::{OldShape, Shape};
 use second::protocol::{self, Call, Limits, Step};
 use second::stream::Maker;
 
@@ -14,16 +17,6 @@ const SHAPE: Shape = Shape {
     t: 3,
     v: 4,
 };
-
-fn answered(stream: &[u8]) -> String {
-    answered_within(Limits::USUAL, stream)
-}
-
-fn answered_within(limits: Limits, stream: &[u8]) -> String {
-    let mut printed = Vec::new();
-    answers::answer_stream(&mut &stream[..], limits, &mut printed).expect("both are in memory");
-    String::from_utf8(printed).expect("answers are plain text")
-}
 
 fn layout_call(v: u64, offered: u64) -> Call {
     let shape = Shape { v, ..SHAPE };
@@ -72,10 +65,6 @@ fn hex_import_call(output_length: u64, text: &[u8]) -> Call {
         output_length,
         text: text.to_vec(),
     }
-}
-
-fn line_of(call: Call) -> String {
-    answers::answer(&call, &mut Layouts::default())
 }
 
 #[test]
@@ -205,7 +194,7 @@ fn a_call_cut_off_anywhere_is_said_so() {
 
 #[test]
 fn operations_that_are_none() {
-    for operation in (0..=255).filter(|operation| !(1..=12).contains(operation)) {
+    for operation in (0..=255).filter(|operation| !(1..=13).contains(operation)) {
         let stream = [&read_call(&[0x23]).to_bytes()[..], &[operation, 1, 2]].concat();
         assert_eq!(answered(&stream), "read 0 2 3 1\nno such call\n");
     }

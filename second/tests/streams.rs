@@ -43,13 +43,13 @@ fn calls_are_small_but_for_the_last_ones() {
 }
 
 /// The first words of every line: the operation and its refusal, and for an
-/// accepted read or write the generation too. Those of new dumps are held to their
-/// own test.
+/// accepted read or write the generation too. Those of new dumps and of many numbers
+/// are held to their own tests.
 fn kinds(seed: u64) -> HashSet<String> {
     let mut layouts = Layouts::default();
     let mut kinds = HashSet::new();
-    let is_old = |call: &Call| !matches!(call, Call::NewDump(_));
-    for call in calls(seed).into_iter().filter(is_old) {
+    let is_told_here = |call: &Call| !matches!(call, Call::NewDump(_) | Call::Many(_));
+    for call in calls(seed).into_iter().filter(is_told_here) {
         let answer = answers::answer(&call, &mut layouts);
         for line in answer.lines() {
             let words: Vec<&str> = line.split(' ').collect();
@@ -148,6 +148,7 @@ fn shape_of(call: &Call) -> Option<Shape> {
             Some(*shape)
         }
         Call::Export { shape, .. } => Some(shape.in_form_0()),
+        Call::Many(call) => Some(call.shape),
         Call::Walk { .. } | Call::HexExport { .. } | Call::HexImport { .. } => None,
         Call::NewDump(_) => None,
     }
@@ -280,7 +281,7 @@ fn fault_of_record(record: &[u8]) -> String {
 #[test]
 fn records_are_malformed_in_every_way() {
     let mut met = HashSet::new();
-    for call in calls(7) {
+    for call in (7..9).flat_map(calls) {
         if let Call::Walk { dump } = call {
             let ending = dump::walk(&dump, &mut Layouts::default()).ending;
             if let Ending::Malformed { offset } = ending {

@@ -1,13 +1,13 @@
 -- What the functions of this program need in order to stay within what they are lent.
-use Prim.Native.Nat.{ℕ, _≤_}
+use Prim.Native.Nat.{ℕ, _+_, _*_, _≤_}
 use mathlib.Core.List.{List}
 use lib.ListN.{length}
 use Rattle.answers.specs.declared.input.Window.{Window}
 use Rattle.answers.specs.declared.protocol.Call.{Call}
 
--- the most bytes of a call: an operation, a new record's six numbers and its output's length, a count and 65,537 bytes
+-- the most bytes of a call: an operation, a shape's four numbers, a count and 128 numbers, a count and 65,537 bytes
 abbrev pub callMost : ℕ
-callMost = 65602
+callMost = 66610
 
 -- the most bytes of an output that a call asks for
 abbrev pub outputMost : ℕ
@@ -34,3 +34,5 @@ pub record Within (c : Call) (bytes : List ℕ) : Type 0 where
   pub forward : c .start ≤ c .end
   pub inside : c .end ≤ length bytes
   pub limited : c .room ≤ outputMost
+  pub few : c .listed ≤ 128
+  pub listed : c .from + 8 * c .listed ≤ length bytes

@@ -12,8 +12,8 @@ pub struct Window {
     pub ended: bool,
 }
 
-// The most bytes of a call: an operation, a new record's seven numbers, a count and 65,537 bytes.
-const CALL_MOST: usize = 65602;
+// The most bytes of a call: an operation, four numbers, a count and 128 numbers more, a count and 65,537 bytes.
+const CALL_MOST: usize = 66610;
 
 // Reads on where what is left might not be a whole call.
 pub fn refill(buffer: &mut [u8], w: Window) -> Window

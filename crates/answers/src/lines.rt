@@ -8,7 +8,6 @@ use dump::Opened;
 use dump::Walked;
 use field::Reading;
 use field::Writing;
-use storing::Made;
 ghost use mathlib.Core.Path.{_≡_};
 ghost use Prim.Native.Nat.{_≤_};
 ghost use lib.ListN.{length};
@@ -79,82 +78,6 @@ pub fn put_write(out: &mut [u8], at: usize, s: Shape, number: u64, cells: &mut [
 {
     let place = put_writing(out, at, gorvlime::write(s, cells, number));
     output::put_hex(out, place, cells)
-}
-
-fn put_length(out: &mut [u8], at: usize, word: &[u8], answer: Made) -> usize
-    requires { ⌜ Fits at (now out) × (length (now word) ≤ pieceMost) ⌝ }
-    ensures { λ r. ⌜ Fits r (now (out .exit)) ⌝ }
-{
-    match answer {
-        Made::Stored(count) => output::put_numbers(out, at, word, &[0, count as u64]),
-        Made::Refused(refusal) => output::put_numbers(out, at, word, &[refusal]),
-    }
-}
-
-// What a call that stores answers, and the output that it was lent.
-fn put_made(out: &mut [u8], at: usize, word: &[u8], answer: Made, lent: &[u8]) -> usize
-    requires { ⌜ Fits at (now out) × (length (now word) ≤ pieceMost) ⌝ }
-    ensures { λ r. ⌜ Fits r (now (out .exit)) ⌝ }
-{
-    let place = put_length(out, at, word, answer);
-    output::put_hex(out, place, lent)
-}
-
-pub fn put_export(
-    out: &mut [u8],
-    at: usize,
-    serial: u64,
-    m: u64,
-    t: u64,
-    v: u64,
-    cells: &[u8],
-    lent: &mut [u8],
-) -> usize
-    requires { ⌜ Fits at (now out) ⌝ }
-    ensures { λ r. ⌜ Fits r (now (out .exit)) ⌝ }
-{
-    let answer = gorvlime::export(serial, m, t, v, cells, lent);
-    put_made(out, at, b"export", answer, lent)
-}
-
-pub fn put_hex_export(out: &mut [u8], at: usize, bytes: &[u8], lent: &mut [u8]) -> usize
-    requires { ⌜ Fits at (now out) ⌝ }
-    ensures { λ r. ⌜ Fits r (now (out .exit)) ⌝ }
-{
-    let answer = gorvlime::hex_export(bytes, lent);
-    put_made(out, at, b"hex", answer, lent)
-}
-
-pub fn put_hex_import(out: &mut [u8], at: usize, text: &[u8], lent: &mut [u8]) -> usize
-    requires { ⌜ Fits at (now out) ⌝ }
-    ensures { λ r. ⌜ Fits r (now (out .exit)) ⌝ }
-{
-    let answer = gorvlime::hex_import(text, lent);
-    put_made(out, at, b"unhex", answer, lent)
-}
-
-pub fn put_listed(out: &mut [u8], at: usize, s: Shape, lent: &mut [u8]) -> usize
-    requires { ⌜ Fits at (now out) ⌝ }
-    ensures { λ r. ⌜ Fits r (now (out .exit)) ⌝ }
-{
-    let answer = gorvlime::export_layout(s, lent);
-    put_made(out, at, b"listed", answer, lent)
-}
-
-pub fn put_record_export(
-    out: &mut [u8],
-    at: usize,
-    serial: u64,
-    number: u64,
-    s: Shape,
-    cells: &[u8],
-    lent: &mut [u8],
-) -> usize
-    requires { ⌜ Fits at (now out) ⌝ }
-    ensures { λ r. ⌜ Fits r (now (out .exit)) ⌝ }
-{
-    let answer = gorvlime::export_record(serial, number, s, cells, lent);
-    put_made(out, at, b"export", answer, lent)
 }
 
 pub fn put_walk(out: &mut [u8], at: usize, dump: &[u8], rows: &mut [u64]) -> usize

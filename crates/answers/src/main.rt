@@ -14,6 +14,8 @@
 //    10 move to old                             outlen, dump: old 0 length OUT | old 7 offset OUT | old N OUT
 //    11 layout of a new dump                    form m t v outlen: listed 0 length OUT | listed N OUT
 //    12 record of a new dump                    serial layout form m t v outlen, cells: export 0 length OUT | export N OUT
+//    13 write many                              form m t v n x_1 .. x_n, cells: many 0 n g_1 turned_1 .. CELLS | many N CELLS |
+//                                               many N field j g_1 turned_1 .. CELLS, of the j fields before the refused one
 //
 // CELLS and OUT are the lent bytes afterwards in hex, left out where there are none. A stream that can't be followed ends with `cut off`, `no such call` or
 // `too long`.
@@ -22,11 +24,14 @@ mod lines;
 mod moved;
 mod output;
 mod protocol;
+mod stored;
+mod written;
 
 use input::Window;
 use protocol::Call;
 use protocol::Operation;
-ghost use Prim.Native.Nat.{_≤_};
+ghost use mathlib.Core.Path.{_≡_};
+ghost use Prim.Native.Nat.{_-_, _≤_};
 ghost use lib.ListN.{length};
 ghost use Rattle.answers.specs.Bounds.{callMost, outputMost, rowMost, Fits, InBuffer, Within};
 
@@ -66,6 +71,18 @@ fn answer_all(buffer: &mut [u8], rows: &mut [u64], out: &mut [u8])
     output::write_out(out, s.place);
 }
 
+// What stands behind a call of so many bytes.
+fn behind(window: Window, count: usize) -> Window
+    requires { ⌜ (window .at ≤ window .end) × (count ≤ window .end - window .at) ⌝ }
+    ensures { λ r. ⌜ (r .at ≤ r .end) × (r .end ≡ window .end) ⌝ }
+{
+    Window {
+        at: window.at + count,
+        end: window.end,
+        ended: window.ended,
+    }
+}
+
 fn answer_next(buffer: &mut [u8], s: State, rows: &mut [u64], out: &mut [u8]) -> State
     requires { ⌜ InBuffer (s .window) (now buffer) × (callMost ≤ length (now buffer)) × (rowMost ≤ length (now rows)) × Fits (s .place) (now out) ⌝ }
     ensures { λ r. ⌜ InBuffer (r .window) (now (buffer .exit)) × Fits (r .place) (now (out .exit)) ⌝ }
@@ -81,14 +98,10 @@ fn answer_next(buffer: &mut [u8], s: State, rows: &mut [u64], out: &mut [u8]) ->
         };
     }
     let call = protocol::read_call(&buffer[at..end]);
+    let rest = behind(window, call.end);
     // What a call is lent for its output is filled with A5.
     let mut lent = [0xa5u8; protocol::OUTPUT_MOST];
     let place = answer(call, &mut buffer[at..end], rows, &mut lent, out, s.place);
-    let rest = Window {
-        at: at + call.end,
-        end,
-        ended: window.ended,
-    };
     State {
         window: rest,
         place,
@@ -111,50 +124,20 @@ fn answer(
     let n = call.numbers;
     let start = call.start;
     let end = call.end;
-    let room = call.room;
+    let s = protocol::shape_from(call, 0);
     match operation {
-        Operation::Layout => lines::put_layout(out, at, protocol::shape_from(call, 0), n[4]),
-        Operation::Read => {
-            lines::put_read(out, at, protocol::shape_from(call, 0), &bytes[start..end])
-        },
-        Operation::Write => {
-            let s = protocol::shape_from(call, 0);
-            lines::put_write(out, at, s, n[4], &mut bytes[start..end])
-        }
-        Operation::Export => {
-            let cells = &bytes[start..end];
-            lines::put_export(out, at, n[0], n[1], n[2], n[3], cells, &mut lent[0..room])
+        Operation::Layout => lines::put_layout(out, at, s, n[4]),
+        Operation::Read => lines::put_read(out, at, s, &bytes[start..end]),
+        Operation::Write => lines::put_write(out, at, s, n[4], &mut bytes[start..end]),
+        Operation::WriteMany => {
+            let mut numbers = [0u64; protocol::LISTED_MOST];
+            let listed = protocol::read_list(bytes, call, &mut numbers);
+            written::put_many(out, at, s, &mut bytes[start..end], &numbers[0..listed])
         }
         Operation::Walk => lines::put_walk(out, at, &bytes[start..end], rows),
-        Operation::HexExport => lines::put_hex_export(
-            out,
-            at,
-            &bytes[start..end],
-            &mut lent[0..room],
-        ),
-        Operation::HexImport => lines::put_hex_import(
-            out,
-            at,
-            &bytes[start..end],
-            &mut lent[0..room],
-        ),
         Operation::WalkNew => lines::put_walk_new(out, at, &bytes[start..end], rows),
-        Operation::MoveToNew => moved::put_to_new(out, at, &bytes[start..end], &mut lent[0..room]),
-        Operation::MoveToOld => moved::put_to_old(out, at, &bytes[start..end], &mut lent[0..room]),
-        Operation::ExportLayout => {
-            lines::put_listed(out, at, protocol::shape_from(call, 0), &mut lent[0..room])
-        }
-        Operation::ExportRecord => {
-            let s = protocol::shape_from(call, 2);
-            lines::put_record_export(
-                out,
-                at,
-                n[0],
-                n[1],
-                s,
-                &bytes[start..end],
-                &mut lent[0..room],
-            )
+        Operation::Store(which) => {
+            stored::put_stored(out, at, call, which, &bytes[start..end], lent)
         }
         Operation::Broken(why) => lines::put_broken(out, at, why),
     }

@@ -13,6 +13,9 @@ pub const OUTPUT_MOST: usize = 1024;
 // The most numbers of a call before its output's length: those of a new dump's record.
 const NUMBERS_MOST: usize = 6;
 
+// The most numbers that are listed behind these.
+pub const LISTED_MOST: usize = 128;
+
 // Why a stream can't be followed.
 pub enum Broken {
     CutOff,
@@ -20,27 +23,35 @@ pub enum Broken {
     TooLong,
 }
 
-pub enum Operation {
-    Layout,
-    Read,
-    Write,
+// The calls that are lent an output.
+pub enum Stored {
     Export,
-    Walk,
     HexExport,
     HexImport,
-    WalkNew,
     MoveToNew,
     MoveToOld,
     ExportLayout,
     ExportRecord,
+}
+
+pub enum Operation {
+    Layout,
+    Read,
+    Write,
+    WriteMany,
+    Walk,
+    WalkNew,
+    Store(Stored),
     Broken(Broken),
 }
 
-// The numbers of a call with 0 behind them, the length of the output that it asks for, its bytes from `start` to `end`, and there its end; 0 for what is no
-// call.
+// The numbers of a call with 0 behind them, how many more are listed from a place on, the length of the output that it asks for, its bytes from `start` to
+// `end`, and there its end; 0 for what is no call.
 pub struct Call {
     pub operation: Operation,
     pub numbers: [u64; NUMBERS_MOST],
+    pub from: usize,
+    pub listed: usize,
     pub room: usize,
     pub start: usize,
     pub end: usize,
@@ -62,13 +73,15 @@ pub fn shape_from(call: Call, first: usize) -> Shape
 }
 
 fn break_off(why: Broken) -> Call
-    ensures { λ r. ⌜ (r .start ≡ 0) × (r .end ≡ 0) × (r .room ≡ 0) ⌝ }
+    ensures { λ r. ⌜ (r .from ≡ 0) × (r .listed ≡ 0) × (r .room ≡ 0) × (r .start ≡ 0) × (r .end ≡ 0) ⌝ }
 {
     let operation = Operation::Broken(why);
     let numbers = [0u64; NUMBERS_MOST];
     Call {
         operation,
         numbers,
+        from: 0,
+        listed: 0,
         room: 0,
         start: 0,
         end: 0,
@@ -79,7 +92,7 @@ fn wide(x: u8) -> u64 {
     x as u64
 }
 
-fn number_at(s: &[u8], at: usize) -> u64
+pub fn number_at(s: &[u8], at: usize) -> u64
     requires { ⌜ at + 8 ≤ length (now s) ⌝ }
 {
     let mut x: u64 = 0;
@@ -89,6 +102,19 @@ fn number_at(s: &[u8], at: usize) -> u64
         x = (x << 8) | wide(s[at + i]);
     }
     x
+}
+
+// The numbers that are listed in a call, and how many they are.
+pub fn read_list(s: &[u8], call: Call, numbers: &mut [u64]) -> usize
+    requires { ⌜ Within call (now s) × (128 ≤ length (now numbers)) ⌝ }
+    ensures { λ r. ⌜ r ≤ 128 ⌝ }
+{
+    let mut i = 0;
+    while i < call.listed {
+        numbers[i] = number_at(s, call.from + 8 * i);
+        i += 1;
+    }
+    i
 }
 
 // The call with so many numbers, no output and no bytes.
@@ -109,9 +135,45 @@ fn read_numbers(s: &[u8], operation: Operation, count: usize) -> Call
     Call {
         operation,
         numbers,
+        from: 0,
+        listed: 0,
         room: 0,
         start: end,
         end,
+    }
+}
+
+// The call with a count and so many numbers behind its own.
+fn read_listed(s: &[u8], call: Call) -> Call
+    requires { ⌜ Within call (now s) ⌝ }
+    ensures { λ r. ⌜ Within r (now (s .entry)) ⌝ }
+{
+    let at = call.end;
+    if at == 0 {
+        return call;
+    }
+    if s.len() - at < 8 {
+        return break_off(Broken::CutOff);
+    }
+    let count = number_at(s, at);
+    if (LISTED_MOST as u64) < count {
+        return break_off(Broken::TooLong);
+    }
+    let from = at + 8;
+    let listed = count as usize;
+    if s.len() - from < 8 * listed {
+        return break_off(Broken::CutOff);
+    }
+    let operation = call.operation;
+    let numbers = call.numbers;
+    Call {
+        operation,
+        numbers,
+        from,
+        listed,
+        room: 0,
+        start: from + 8 * listed,
+        end: from + 8 * listed,
     }
 }
 
@@ -136,6 +198,8 @@ fn read_room(s: &[u8], call: Call) -> Call
     Call {
         operation,
         numbers,
+        from: 0,
+        listed: 0,
         room: room as usize,
         start: at + 8,
         end: at + 8,
@@ -168,10 +232,23 @@ fn read_bytes(s: &[u8], call: Call) -> Call
     Call {
         operation,
         numbers,
+        from: call.from,
+        listed: call.listed,
         room: call.room,
         start,
         end,
     }
+}
+
+// The call with so many numbers, an output and bytes.
+fn read_stored(s: &[u8], stored: Stored, count: usize) -> Call
+    requires { ⌜ count ≤ 6 ⌝ }
+    ensures { λ r. ⌜ Within r (now (s .entry)) ⌝ }
+{
+    read_bytes(
+        s,
+        read_room(s, read_numbers(s, Operation::Store(stored), count)),
+    )
 }
 
 // The call at the front of some bytes.
@@ -183,15 +260,19 @@ pub fn read_call(s: &[u8]) -> Call
         1 => read_numbers(s, Operation::Layout, 5),
         2 => read_bytes(s, read_numbers(s, Operation::Read, 4)),
         3 => read_bytes(s, read_numbers(s, Operation::Write, 5)),
-        4 => read_bytes(s, read_room(s, read_numbers(s, Operation::Export, 4))),
+        4 => read_stored(s, Stored::Export, 4),
         5 => read_bytes(s, read_numbers(s, Operation::Walk, 0)),
-        6 => read_bytes(s, read_room(s, read_numbers(s, Operation::HexExport, 0))),
-        7 => read_bytes(s, read_room(s, read_numbers(s, Operation::HexImport, 0))),
+        6 => read_stored(s, Stored::HexExport, 0),
+        7 => read_stored(s, Stored::HexImport, 0),
         8 => read_bytes(s, read_numbers(s, Operation::WalkNew, 0)),
-        9 => read_bytes(s, read_room(s, read_numbers(s, Operation::MoveToNew, 0))),
-        10 => read_bytes(s, read_room(s, read_numbers(s, Operation::MoveToOld, 0))),
-        11 => read_room(s, read_numbers(s, Operation::ExportLayout, 4)),
-        12 => read_bytes(s, read_room(s, read_numbers(s, Operation::ExportRecord, 6))),
+        9 => read_stored(s, Stored::MoveToNew, 0),
+        10 => read_stored(s, Stored::MoveToOld, 0),
+        11 => read_room(
+            s,
+            read_numbers(s, Operation::Store(Stored::ExportLayout), 4),
+        ),
+        12 => read_stored(s, Stored::ExportRecord, 6),
+        13 => read_bytes(s, read_listed(s, read_numbers(s, Operation::WriteMany, 4))),
         _ => break_off(Broken::NoSuchCall),
     }
 }

@@ -79,6 +79,25 @@ module _ (o m first : ℕ) (hs vs : List ℕ) where
     unfolding writeCells
     stored-write x gs l u = let b = buffer gs l u in rw (b .right, b .back)
 
+    -- a try keeps the number of bytes
+    accepted-long : (x : ℕ) (bs : List ℕ) (i : ℕ) (bs′ : List ℕ) → writeCells o m first hs vs x bs ≡ wrote i bs′ → length bs′ ≡ length bs
+    unfolding writeCells
+    accepted-long x bs i bs′ w =
+        let h = getD hs 0 0 in
+        let gs = opened o m h bs in
+        let t = storing-wrote o m (sound o m h bs) (write (2 ^ m - 1) first hs vs x gs) i bs′ w in
+        let l : length gs ≡ h = groups-length m h (wit o bs) in
+        let a = write-is (2 ^ m - 1) first hs vs y x gs i (t .1) l (t .2) in
+        rw (t .3) (stored-length o m (t .1) pos ∙ rw (a .long, l) (sym (sound-length o m h bs (t .0))))
+
+    pub tried-long : (x : ℕ) (bs : List ℕ) → length (triedCells o m first hs vs x bs) ≡ length bs
+    unfolding triedCells kept
+    tried-long x bs = go (writeCells o m first hs vs x bs) refl
+      where
+        go : (w : Writing) → writeCells o m first hs vs x bs ≡ w → length (kept bs w) ≡ length bs
+        go refused q = refl
+        go (wrote i bs′) q = accepted-long x bs i bs′ q
+
     -- An accepted write reads back as its generation and number, no wit falls, and the turned count is the ones after less the ones before.
     pub accepted-is : (x : ℕ) (bs : List ℕ) (i : ℕ) (bs′ : List ℕ) → Bytes bs → writeCells o m first hs vs x bs ≡ wrote i bs′ → Accepted x bs i bs′
     unfolding writeCells readCells
@@ -94,7 +113,7 @@ module _ (o m first : ℕ) (hs vs : List ℕ) where
         let up : (w : ℕ) → wit o bs w ≤ wit o (stored o m gs′) w = λ w.
         let q : wit o bs w ≡ _ = ap (λ (z : List ℕ). wit o z w) (sym told) ∙ stored-wit o m gs pos w in
         rw (q, stored-wit o m gs′ pos w) (grows-wit m gs gs′ w pos (a .grows)) in
-        let n : length (stored o m gs′) ≡ length bs = stored-length o m gs′ pos ∙ rw (a .long, l) (sym (sound-length o m h bs (t .0))) in
+        let n : length (stored o m gs′) ≡ length bs = rw (t .3) at (accepted-long x bs i bs′ w) in
         rw (t .3) (record {
           right = b .right;
           bytes = b .bytes;

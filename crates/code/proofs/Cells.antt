@@ -2,7 +2,7 @@
 use mathlib.Core.Path.{_≡_, refl, sym, ap, _∙_}
 use mathlib.Core.Logic.{_⊎_, inl, inr}
 use mathlib.Core.Bool.{true}
-use mathlib.Core.List.{List, [], _∷_}
+use mathlib.Core.List.{List, [], _∷_, _++_}
 use Prim.Native.Nat.{ℕ, zero, suc, _+_, _*_, _-_, _^_, _/_, _%_, _≤_, _<_}
 use native.Mathlib.Omega.{arith}
 use native.Mathlib.Decide.{decLt}
@@ -10,13 +10,14 @@ use native.Mathlib.Nat.{lt-of-not-le, le-refl, zero-add, div-add-mod, div-lt-iff
 use lib.Dec.{eqb}
 use borrow.Author.Tests.{eq-eqb, eqb-true}
 use lib.Pow.{pow-pos}
-use lib.ListN.{length, getD, replicate, length-replicate, List·getD-eq-default}
+use lib.ListN.{length, getD, replicate, length-append, length-replicate, List·getD-eq-default}
 use lib.Seq.{ext-getD}
 use Rattle.code.specs.Lists.{Upto}
 use Rattle.code.specs.Cells.{place, wit, value, listed, sum, group, groups, opened, size, sound, witOf, byteOf, stored, ones, turned}
 use Rattle.code.proofs.Tests.{both-true}
-use Rattle.code.proofs.Numbers.{bit, bit-full, value-byte, value-bit, value-is, value-zero, value-none, listed-length, listed-at, sum-difference}
-use Rattle.code.proofs.Wits.{Bytes, wit-lt, wit-past, wit-ext, place-lt, place-place}
+use Rattle.code.proofs.Numbers.{bit, bit-full, value-byte, value-bit, value-is, value-zero, value-none, listed-length, listed-at}
+use Rattle.code.proofs.Numbers.{sum-difference, sum-split, sum-same}
+use Rattle.code.proofs.Wits.{Bytes, wit-lt, wit-past, wit-front, wit-behind, wit-ext, place-lt, place-place}
 use Rattle.code.proofs.Groups.{Grows}
 
 -- n bytes of the wits f
@@ -186,6 +187,16 @@ pub turned-ones : (o : ℕ) (before after : List ℕ) → length after ≡ lengt
     turned o before after + ones o before ≡ ones o after
 unfolding turned ones
 turned-ones o before after n g = rw n (sum-difference (wit o before) (wit o after) (8 * length before) g)
+
+-- the ones of two buffers end to end
+pub ones-append : (o : ℕ) (xs ys : List ℕ) → ones o (xs ++ ys) ≡ ones o xs + ones o ys
+unfolding ones
+ones-append o xs ys =
+    let f : ℕ → ℕ = wit o (xs ++ ys) in
+    let l : 8 * length (xs ++ ys) ≡ 8 * length xs + 8 * length ys = omega (arith, length-append xs ys) in
+    let front : sum f (8 * length xs) ≡ sum (wit o xs) (8 * length xs) = sum-same f (wit o xs) (8 * length xs) (wit-front o xs ys) in
+    let behind = sum-same (λ k. f (8 * length xs + k)) (wit o ys) (8 * length ys) (λ k h. wit-behind o xs ys k) in
+    rw (l, sum-split f (8 * length xs) (8 * length ys), front, behind)
 
 -- the blank buffer is that of blank groups
 pub none-at : (n i : ℕ) → _≡_ {A = ℕ} (getD (replicate n 0) i 0) 0

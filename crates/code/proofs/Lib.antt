@@ -49,3 +49,5 @@ pub mod HexText
 pub mod HexImport
 pub mod HexCalls
 pub mod NewDumpExamples
+pub mod Many
+pub mod ManyExamples

@@ -1,12 +1,14 @@
 -- A wit of bytes: its place, and bytes told by their wits. Only the laws of `place` look at the order.
-use mathlib.Core.Path.{_≡_, _∙_}
-use mathlib.Core.List.{List}
-use Prim.Native.Nat.{ℕ, zero, suc, _+_, _*_, _^_, _/_, _%_, _≤_, _<_}
+use mathlib.Core.Path.{_≡_, ap, _∙_}
+use mathlib.Core.Logic.{inl, inr}
+use mathlib.Core.List.{List, _++_}
+use Prim.Native.Nat.{ℕ, zero, suc, _+_, _*_, _-_, _^_, _/_, _%_, _≤_, _<_}
 use native.Mathlib.Omega.{arith}
 use native.Mathlib.Nat.{zero-div, mod-eq-of-lt}
-use lib.ListN.{length, getD, List·getD-eq-default}
-use lib.Seq.{ext-getD}
+use lib.ListN.{length, getD, List·getD-eq-default, List·getD-append}
+use lib.Seq.{ext-getD, getD-append-add}
 use Rattle.code.specs.Cells.{place, wit}
+use Rattle.code.proofs.Tests.{le-or-lt}
 use Rattle.code.proofs.Numbers.{bit-lt, bits-ext}
 
 pub place-lt : (o w : ℕ) → place o w < 8
@@ -32,6 +34,31 @@ wit-lt o bs w = bit-lt (place o w) (getD bs (w / 8) 0)
 pub wit-past : (o : ℕ) (bs : List ℕ) (w : ℕ) → 8 * length bs ≤ w → wit o bs w ≡ 0
 unfolding wit
 wit-past o bs w h = rw (List·getD-eq-default bs 0 {n = w / 8} (omega arith), zero-div)
+
+-- the wits of two buffers end to end
+pub wit-front : (o : ℕ) (xs ys : List ℕ) (w : ℕ) → w < 8 * length xs → wit o (xs ++ ys) w ≡ wit o xs w
+unfolding wit
+wit-front o xs ys w h = rw (List·getD-append xs ys 0 (w / 8) (omega arith))
+
+pub wit-behind : (o : ℕ) (xs ys : List ℕ) (w : ℕ) → wit o (xs ++ ys) (8 * length xs + w) ≡ wit o ys w
+unfolding wit
+wit-behind o xs ys w =
+    let e : (8 * length xs + w) / 8 ≡ length xs + w / 8 = omega arith in
+    rw (e, getD-append-add xs ys (w / 8) 0, place-byte o (length xs) w)
+
+-- no wit falls where none falls in either of them
+pub wit-rises : (o : ℕ) (xs ys xs′ ys′ : List ℕ) → length xs ≡ length xs′ → ((w : ℕ) → wit o xs w ≤ wit o xs′ w) → ((w : ℕ) → wit o ys w ≤ wit o ys′ w) →
+    (w : ℕ) → wit o (xs ++ ys) w ≤ wit o (xs′ ++ ys′) w
+wit-rises o xs ys xs′ ys′ n f g w = elim (le-or-lt (8 * length xs) w) [
+  | inr h ↦ omega (arith, wit-front o xs ys w h, wit-front o xs′ ys′ w (omega arith), f w)
+  | inl h ↦
+      let k : ℕ = w - 8 * length xs in
+      let e : w ≡ 8 * length xs + k = omega arith in
+      let e′ : w ≡ 8 * length xs′ + k = omega arith in
+      let p : wit o (xs ++ ys) w ≡ wit o ys k = ap (wit o (xs ++ ys)) e ∙ wit-behind o xs ys k in
+      let q : wit o (xs′ ++ ys′) w ≡ wit o ys′ k = ap (wit o (xs′ ++ ys′)) e′ ∙ wit-behind o xs′ ys′ k in
+      rw (p, q) (g k)
+]
 
 -- every byte of a list is below 256
 abbrev pub Bytes : List ℕ → Type 0

@@ -14,3 +14,4 @@ pub mod Dump
 pub mod Hex
 pub mod HexLine
 pub mod NewDump
+pub mod Many

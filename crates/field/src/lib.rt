@@ -511,7 +511,7 @@ fn write_sound(h: &[u64; 16], s: Shape, cells: &mut [u8], x: u64) -> Writing
 }
 
 // The write on a field whose layout is granted.
-fn write_granted(h: &[u64; 16], s: Shape, cells: &mut [u8], x: u64) -> Writing
+pub fn write_granted(h: &[u64; 16], s: Shape, cells: &mut [u8], x: u64) -> Writing
     requires { ⌜ Granted s (now h) ⌝ }
     ensures { λ r. ⌜ (writingOf r ≡ writeReply s x (now (cells .entry))) × (now (cells .exit) ≡ writeLeaves s x (now (cells .entry))) ⌝ }
 {

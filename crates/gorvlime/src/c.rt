@@ -4,7 +4,9 @@ use dump::Halt;
 ghost use mathlib.Core.Path.{_≡_};
 ghost use mathlib.Core.List.{_∷_, _++_};
 ghost use Rattle.code.specs.Calls.{filled, layoutFields, layoutReply, readReply, writeReply, writeLeaves};
+ghost use Rattle.code.specs.Many.{manyReply, manyLeaves};
 ghost use Rattle.field.specs.Answers.{readingOf, writingOf};
+ghost use Rattle.many.specs.Answers.{manyOf};
 ghost use Prim.Native.Nat.{_^_, _<_};
 ghost use lib.ListN.{take, drop, replicate};
 ghost use Rattle.code.specs.declared.Kind.the-variants.{Old, New};
@@ -92,6 +94,14 @@ pub extern "C" fn gorvlime_write(s: Shape, cells: &mut [u8], number: u64) -> Wri
     ensures { λ r. ⌜ now (cells .exit) ≡ writeLeaves s number (now (cells .entry)) ⌝ }
 {
     flat_writing(crate::write(s, cells, number))
+}
+
+#[no_mangle]
+pub extern "C" fn gorvlime_write_many(s: Shape, cells: &mut [u8], numbers: &[u64]) -> many::Many
+    ensures { λ r. ⌜ manyOf r ≡ manyReply s (now (numbers .entry)) (now (cells .entry)) ⌝ }
+    ensures { λ r. ⌜ now (cells .exit) ≡ manyLeaves s (now (numbers .entry)) (now (cells .entry)) ⌝ }
+{
+    crate::write_many(s, cells, numbers)
 }
 
 #[repr(C)]

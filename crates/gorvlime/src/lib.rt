@@ -9,17 +9,20 @@ use dump::Walked;
 use field::Reading;
 use field::Writing;
 use layout::Layout;
+use many::Many;
 use moves::Moved;
 use storing::Made;
 ghost use mathlib.Core.Path.{_≡_};
 ghost use mathlib.Core.List.{_∷_};
 ghost use lib.ListN.{take, drop};
 ghost use Rattle.code.specs.Calls.{filled, layoutFields, layoutReply, readReply, writeReply, writeLeaves};
+ghost use Rattle.code.specs.Many.{manyReply, manyLeaves};
 ghost use Rattle.code.specs.declared.Kind.the-variants.{Old, New};
 ghost use Rattle.code.specs.Dump.{oldExport, newExport, exportReply, exportLeaves, openReply, stepReply, walkReply, walkLeaves};
 ghost use Rattle.code.specs.NewDump.{layoutExportReply, layoutExportLeaves, toNewReply, toNewLeaves, toOldReply, toOldLeaves};
 ghost use Rattle.code.specs.Hex.{hexExportReply, hexExportLeaves, hexImportReply, hexImportLeaves};
 ghost use Rattle.field.specs.Answers.{readingOf, writingOf};
+ghost use Rattle.many.specs.Answers.{manyOf};
 ghost use Rattle.dump.specs.Answers.{openedReply, stepOf, walkedOf};
 ghost use Rattle.moves.specs.Answers.{movedOf};
 ghost use Rattle.storing.specs.Answers.{madeOf};
@@ -44,6 +47,14 @@ pub fn write(s: Shape, cells: &mut [u8], number: u64) -> Writing
     ensures { λ r. ⌜ now (cells .exit) ≡ writeLeaves s number (now (cells .entry)) ⌝ }
 {
     field::write(s, cells, number)
+}
+
+// One number for each of the fields that lie end to end in the cells, written in order up to the first refusal.
+pub fn write_many(s: Shape, cells: &mut [u8], numbers: &[u64]) -> Many
+    ensures { λ r. ⌜ manyOf r ≡ manyReply s (now (numbers .entry)) (now (cells .entry)) ⌝ }
+    ensures { λ r. ⌜ now (cells .exit) ≡ manyLeaves s (now (numbers .entry)) (now (cells .entry)) ⌝ }
+{
+    many::write_many(s, cells, numbers)
 }
 
 // The record of a field for an old dump, at the front of the output.

@@ -1,5 +1,6 @@
 //! The lines that answer a call.
 
+mod many;
 mod new_dump;
 
 use crate::dump::{self, Ending, Record};
@@ -61,6 +62,7 @@ pub fn answer(call: &Call, layouts: &mut Layouts) -> String {
             text,
         } => stored_line("unhex", *output_length, |output| hex::import(text, output)),
         Call::NewDump(call) => new_dump::answer(call, layouts),
+        Call::Many(call) => many::answer(call, layouts),
     }
 }
 

@@ -1,6 +1,6 @@
 //! The calls, their one form in a stream, and their meaning in words.
 
-use super::NewDumpCall;
+use super::{ManyCall, NewDumpCall};
 use crate::layout::{OldShape, Shape};
 
 #[derive(Clone, Debug, PartialEq, Eq)]
@@ -36,6 +36,7 @@ pub enum Call {
         text: Vec<u8>,
     },
     NewDump(NewDumpCall),
+    Many(ManyCall),
 }
 
 /// A call as a stream holds it: its operation, its numbers, and its bytes if it has
@@ -90,6 +91,7 @@ impl Call {
                 text,
             } => (7, vec![*output_length], Some(text)),
             Call::NewDump(call) => call.parts(),
+            Call::Many(call) => call.parts(),
         }
     }
 
@@ -130,6 +132,7 @@ impl Call {
                 text,
             } => format!("HEX import {}, {}", counted(text), lent(*output_length)),
             Call::NewDump(call) => call.meaning(),
+            Call::Many(call) => call.meaning(),
         }
     }
 }

@@ -1,12 +1,15 @@
 //! Calls as a stream of bytes: one byte says which call it is, its numbers follow
 //! as eight bytes each from the low one up, and cells, a dump or a text as one
-//! number more, which counts them, and the bytes themselves.
+//! number more, which counts them, and the bytes themselves. Where a call has as many
+//! numbers as it likes, their count stands in front of them.
 
 mod call;
+mod many;
 mod new_dump;
 
 use crate::layout::{OldShape, Shape};
 pub use call::Call;
+pub use many::ManyCall;
 pub use new_dump::NewDumpCall;
 use std::io::{self, ErrorKind, Read};
 
@@ -130,6 +133,7 @@ fn call_after(operation: u8, stream: &mut impl Read, limits: Limits) -> Result<C
         8..=12 => Ok(Call::NewDump(new_dump::call_after(
             operation, stream, limits,
         )?)),
+        13 => Ok(Call::Many(many::call_after(stream, limits)?)),
         _ => Err(Failure::Broken(Broken::NoSuchCall)),
     }
 }

@@ -7,11 +7,9 @@ use crate::layout::{Layout, Shape, GROUPS_OFFERED};
 use crate::whole::Whole;
 
 impl Maker {
-    /// Cells for a shape; a shape without a layout gets a few bytes. Where the form
-    /// alone is beyond its bounds they are those of form 1, so that it decides.
+    /// Cells for a shape; a shape without a layout gets a few bytes.
     pub fn cells(&mut self, shape: Shape) -> Vec<u8> {
-        let form = shape.form.min(1);
-        let shape = Shape { form, ..shape };
+        let shape = shape_of_cells(shape);
         let layout = match self.layouts.grant(shape, GROUPS_OFFERED) {
             Ok(layout) => layout,
             Err(_) => {
@@ -97,7 +95,7 @@ impl Maker {
 
     /// Cells whose number is 0, the last one in range, the first one beyond it, or
     /// the last one the generation has a pattern for.
-    fn edge_cells(&mut self, layout: &Layout) -> Vec<u8> {
+    pub fn edge_cells(&mut self, layout: &Layout) -> Vec<u8> {
         let generation = 1 + self.chance.index(layout.generations());
         let erased = layout.groups() - layout.count(generation);
         let groups = self.groups_with_erased(layout, erased);
@@ -125,7 +123,7 @@ impl Maker {
     }
 
     /// One erased group too many or too few for the pattern's generation.
-    fn cells_with_wrong_erasures(&mut self, layout: &Layout) -> Vec<u8> {
+    pub fn cells_with_wrong_erasures(&mut self, layout: &Layout) -> Vec<u8> {
         let generation = 1 + self.chance.index(layout.generations());
         let due = layout.groups() - layout.count(generation);
         let erased = match self.chance.one_in(2) {
@@ -156,7 +154,7 @@ impl Maker {
     }
 
     /// Where no bit is left over, a byte more stands for it.
-    fn set_a_left_over_bit(&mut self, layout: &Layout, cells: &mut Vec<u8>) {
+    pub fn set_a_left_over_bit(&mut self, layout: &Layout, cells: &mut Vec<u8>) {
         let last = cells.len() - 1;
         match 8 * cells.len() - layout.wits() {
             0 => cells.push(1),
@@ -178,6 +176,13 @@ impl Maker {
         }
         cells
     }
+}
+
+/// Where the form alone is beyond its bounds the cells are those of form 1, so that it
+/// decides.
+pub fn shape_of_cells(shape: Shape) -> Shape {
+    let form = shape.form.min(1);
+    Shape { form, ..shape }
 }
 
 fn cells_of_one_value(layout: &Layout, value: u64) -> Vec<u8> {

@@ -6,6 +6,7 @@ mod exact_sums;
 mod fields;
 mod hex;
 mod hex_damage;
+mod many;
 mod new_dump_calls;
 mod new_dumps;
 mod shapes;
@@ -91,7 +92,7 @@ impl Maker {
     }
 
     fn make_calls(&mut self) {
-        let call = match self.chance.between(1, 204) {
+        let call = match self.chance.between(1, 228) {
             1..=16 => self.layout_call(),
             17..=42 => self.read_call(),
             43..=64 => self.write_call(),
@@ -102,6 +103,7 @@ impl Maker {
             98..=127 => Call::Walk { dump: self.dump() },
             128..=132 => self.hex_export_call(),
             133..=156 => self.hex_import_call(),
+            157..=180 => self.many_call(),
             _ => self.new_dump_call(),
         };
         self.waiting.push_back(call);

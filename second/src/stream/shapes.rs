@@ -129,7 +129,7 @@ impl Maker {
     }
 
     /// Mostly one number alone at a boundary or beyond, so that it decides.
-    fn shape_beyond_bounds(&mut self) -> Shape {
+    pub fn shape_beyond_bounds(&mut self) -> Shape {
         let mut shape = self.small_shape();
         let alone = self.chance.index(3);
         let numbers = [&mut shape.m, &mut shape.t, &mut shape.v];

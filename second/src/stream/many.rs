@@ -1,0 +1,189 @@
+//! Made calls of many numbers: good ones, ones that stop at a field, and ones that are
+//! refused before any write.
+
+use super::fields::shape_of_cells;
+use super::shapes::PUBLISHED;
+use super::Maker;
+use crate::cells;
+use crate::field;
+use crate::layout::{Layout, Shape, GROUPS_OFFERED};
+use crate::many::MOST_NUMBERS;
+use crate::protocol::{Call, ManyCall};
+
+impl Maker {
+    pub fn many_call(&mut self) -> Call {
+        Call::Many(match self.chance.between(1, 20) {
+            1..=7 => self.good_fields(),
+            8..=14 => self.fields_with_faults(),
+            15..=16 => self.fields_of_a_wrong_length(),
+            17 => self.fields_of_another_layout(),
+            18 => self.cells_without_numbers(),
+            _ => self.too_many_fields(),
+        })
+    }
+
+    fn good_fields(&mut self) -> ManyCall {
+        let shape = self.shape();
+        let count = self.field_count();
+        self.fields_to_write(shape, count)
+    }
+
+    /// Few mostly; at times as many as a call may have.
+    fn field_count(&mut self) -> usize {
+        match self.chance.between(1, 20) {
+            1 => 0,
+            2 => MOST_NUMBERS - 1,
+            3 => MOST_NUMBERS,
+            4 => self.chance.index(MOST_NUMBERS + 1),
+            5..=7 => 1,
+            _ => 2 + self.chance.index(5),
+        }
+    }
+
+    /// Fields from blank to one write before their last, the latter more often than
+    /// others, and numbers in range. A shape without a layout gets a byte for each
+    /// number.
+    fn fields_to_write(&mut self, shape: Shape, count: usize) -> ManyCall {
+        let numbers = (0..count).map(|_| self.number_in_range(shape.v)).collect();
+        let of_cells = shape_of_cells(shape);
+        let cells = match self.layouts.grant(of_cells, GROUPS_OFFERED) {
+            Ok(layout) => {
+                let states = self.cells_from_blank_to_spent(of_cells, &layout);
+                let spent = layout.generations();
+                let field = |_| match self.chance.one_in(5) {
+                    true => states[spent - 1].clone(),
+                    false => states[self.chance.index(spent)].clone(),
+                };
+                (0..count).flat_map(field).collect()
+            }
+            Err(_) => self.chance.bytes(count),
+        };
+        ManyCall {
+            shape,
+            numbers,
+            cells,
+        }
+    }
+
+    /// One field's cells before its first write and after each.
+    fn cells_from_blank_to_spent(&mut self, shape: Shape, layout: &Layout) -> Vec<Vec<u8>> {
+        let mut cells = vec![0; cells::byte_count(layout)];
+        let mut states = vec![cells.clone()];
+        for _ in 0..layout.generations() {
+            // A 0 would leave blank cells of form 0 blank.
+            let number = self.chance.between(1, shape.v - 1);
+            if let Ok(written) = field::write(shape, number, &cells, &mut self.layouts) {
+                cells = written.cells;
+                states.push(cells.clone());
+            }
+        }
+        states
+    }
+
+    /// The first of the faults decides, wherever the others are.
+    fn fields_with_faults(&mut self) -> ManyCall {
+        let shape = self.shape();
+        let count = MOST_NUMBERS.min(1 + self.field_count());
+        let mut call = self.fields_to_write(shape, count);
+        for _ in 0..self.chance.between(1, 2) {
+            let place = match self.chance.between(1, 5) {
+                1 => 0,
+                2 => count - 1,
+                _ => self.chance.index(count),
+            };
+            self.damage_field(place, &mut call);
+        }
+        call
+    }
+
+    /// A number out of range, cells that can't be written, or both, so that their order
+    /// decides.
+    fn damage_field(&mut self, place: usize, call: &mut ManyCall) {
+        let shape = shape_of_cells(call.shape);
+        let layout = match self.layouts.grant(shape, GROUPS_OFFERED) {
+            Ok(layout) => layout,
+            Err(_) => return,
+        };
+        let fault = self.chance.between(1, 9);
+        if fault <= 3 {
+            call.numbers[place] = self.chance.pick(&[shape.v, shape.v + 1, u64::MAX]);
+        }
+        if fault >= 3 {
+            let refused = self.cells_to_refuse(shape, &layout);
+            let start = place * refused.len();
+            call.cells[start..start + refused.len()].copy_from_slice(&refused);
+        }
+    }
+
+    /// As long as the field, and spent, with a left-over bit, or without a reading.
+    fn cells_to_refuse(&mut self, shape: Shape, layout: &Layout) -> Vec<u8> {
+        let mut states = self.cells_from_blank_to_spent(shape, layout);
+        let has_left_over_bits = layout.wits() % 8 != 0;
+        match self.chance.between(1, 6) {
+            1..=2 => states.swap_remove(layout.generations()),
+            3..=4 if has_left_over_bits => {
+                let mut cells = states.swap_remove(self.chance.index(states.len()));
+                self.set_a_left_over_bit(layout, &mut cells);
+                cells
+            }
+            5 => self.edge_cells(layout),
+            _ => self.cells_with_wrong_erasures(layout),
+        }
+    }
+
+    /// By a byte or by a field, or the cells of one field for all numbers.
+    fn fields_of_a_wrong_length(&mut self) -> ManyCall {
+        let shape = self.shape();
+        let count = self.field_count().max(1);
+        let mut call = self.fields_to_write(shape, count);
+        match self.chance.between(1, 7) {
+            1 => call.cells.push(0),
+            2 => call.cells.truncate(call.cells.len() - 1),
+            3 => call.cells.clear(),
+            4..=5 => call.numbers.truncate(count - 1),
+            6 => call.numbers.push(0),
+            _ => call.cells.truncate(call.cells.len() / count),
+        }
+        call
+    }
+
+    /// Of the other form, whose cells are mostly as long, or of any other shape.
+    fn fields_of_another_layout(&mut self) -> ManyCall {
+        let mut call = self.good_fields();
+        call.shape = match self.chance.one_in(2) {
+            true => Shape {
+                form: 1 - shape_of_cells(call.shape).form,
+                ..call.shape
+            },
+            false => self.shape(),
+        };
+        call
+    }
+
+    fn cells_without_numbers(&mut self) -> ManyCall {
+        let shape = self.shape();
+        ManyCall {
+            shape,
+            numbers: Vec::new(),
+            cells: self.cells(shape),
+        }
+    }
+
+    /// One number too many or more. Mostly nothing else is wrong; at times the shape
+    /// is, or the fields are as many as a call may have.
+    fn too_many_fields(&mut self) -> ManyCall {
+        let form = self.chance.between(0, 1);
+        let shape = match self.chance.between(1, 8) {
+            1..=2 => self.shape_beyond_bounds(),
+            3 => PUBLISHED,
+            _ => self.small_shape(),
+        };
+        let past = MOST_NUMBERS + 1;
+        let count = self.chance.pick(&[past, past, past + 1, 2 * MOST_NUMBERS]);
+        let mut call = self.fields_to_write(Shape { form, ..shape }, count);
+        if self.chance.one_in(4) {
+            call.cells.truncate(call.cells.len() / count * MOST_NUMBERS);
+        }
+        call
+    }
+}
