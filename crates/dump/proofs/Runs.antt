@@ -10,7 +10,7 @@ use Rattle.code.specs.Dump as Code
 use Rattle.code.specs.Dump.{rowLength}
 use Rattle.code.proofs.Walk.{walk-ended, walk-stopped, onward-taken}
 use Rattle.code.proofs.Closing.{walk-few, walk-onward}
-use Rattle.field.specs.declared.Reading.{Reading}
+use Rattle.reading.specs.declared.Reading.{Reading}
 use Rattle.dump.specs.Answers.{haltNumber, haltCarries, stepOf, walkedOf}
 use Rattle.dump.specs.declared.Halt.{Halt}
 use Rattle.dump.specs.declared.Step.{Step}

@@ -13,8 +13,8 @@ use Rattle.storing.specs.Answers.{madeOf}
 use Rattle.storing.specs.declared.Made.{Made}
 use Rattle.storing.proofs.Unique.{made-alike}
 use Rattle.code.proofs.Steps.{numbers-same}
-use Rattle.field.specs.Answers.{readingOf}
-use Rattle.field.proofs.Unique.{same-reading}
+use Rattle.reading.specs.Answers.{readingOf}
+use Rattle.reading.proofs.Unique.{same-reading}
 use Rattle.dump.specs.Answers.{haltOf, openedReply, stepOf, walkedOf}
 use Rattle.dump.specs.declared.Halt.{Halt}
 use Rattle.dump.specs.declared.Halt.the-variants.{Malformed, Oversize}

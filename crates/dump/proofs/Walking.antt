@@ -20,8 +20,8 @@ use Rattle.code.proofs.Records.{open-oversize, open-short, step-barred, step-en
 use Rattle.code.proofs.Dumps.{entered-within}
 use Rattle.code.proofs.Steps.{Barring, open-barring, told-record, told-ended, told-stopped}
 use Rattle.code.proofs.Walk.{entered-short, step-forward, walk-taken, walk-ended, walk-stopped}
-use Rattle.field.specs.Answers.{readingOf}
-use Rattle.field.specs.declared.Reading.{Reading}
+use Rattle.reading.specs.Answers.{readingOf}
+use Rattle.reading.specs.declared.Reading.{Reading}
 use Rattle.code.specs.LayoutList.{layoutList}
 use Rattle.records.specs.Source.{layoutsAt, sourceOf}
 use Rattle.records.proofs.Laws.{layouts-many}

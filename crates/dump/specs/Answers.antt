@@ -6,7 +6,7 @@ use lib.ListN.{length, getD, take}
 use Rattle.code.specs.declared.Kind.{Kind}
 use Rattle.code.specs.Dump as Code
 use Rattle.code.specs.Dump.{recordNumbers}
-use Rattle.field.specs.Answers.{readingOf}
+use Rattle.reading.specs.Answers.{readingOf}
 use Rattle.records.specs.Source.{sourceOf}
 use Rattle.dump.specs.declared.Halt.{Halt}
 use Rattle.dump.specs.declared.Halt.the-variants.{Malformed, Oversize}

@@ -4,8 +4,8 @@ pub mod export;
 use code::Kind;
 use code::Record;
 use code::Shape;
-use field::Reading;
 use layout::Plan;
+use reading::Reading;
 use records::Head;
 use records::list::LayoutList;
 ghost use mathlib.Core.Path.{_≡_};
@@ -18,7 +18,7 @@ ghost use Rattle.code.specs.Calls.{filled};
 ghost use Rattle.code.specs.Dump.{openReply, step, taken, stepValues, stepReply, rowNumbers, rowLength, walkReply, walkLeaves};
 ghost use Rattle.storing.specs.Put.{Put};
 ghost use Rattle.layout.specs.Plan.{Planned};
-ghost use Rattle.field.specs.Answers.{readingOf};
+ghost use Rattle.reading.specs.Answers.{readingOf};
 ghost use Rattle.dump.specs.Answers.{openedReply, locatedOf, stepOf, Opens, Ready, walkedOf, haltedBy};
 
 // The most bytes of a dump.
@@ -113,7 +113,7 @@ fn step_in(dump: &[u8], kind: Kind, places: &[u16], at: usize) -> Step
     match locate(dump, kind, places, at) {
         Located::Record(record) => {
             let cells = records::part(dump, record.start, record.count);
-            let outcome = field::read(record.shape, cells);
+            let outcome = reading::read(record.shape, cells);
             Step::Record { record, outcome }
         }
         Located::End => Step::End,
@@ -184,7 +184,7 @@ fn step_record(dump: &[u8], h: &mut [u64; 16], kept: Plan, record: Record) -> St
     ensures { λ r. ⌜ (stepOf (r .step) ≡ stepValues (now (dump .entry)) (taken «record»)) × Planned (r .kept) (now (h .exit)) ⌝ }
 {
     let plan = renew(h, kept, record.shape);
-    let outcome = field::read_by(plan, h, records::part(dump, record.start, record.count));
+    let outcome = reading::read_by(plan, h, records::part(dump, record.start, record.count));
     let step = Step::Record { record, outcome };
     Stepped { step, kept: plan }
 }

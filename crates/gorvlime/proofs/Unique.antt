@@ -1,6 +1,6 @@
 -- The promises of the calls for C leave no choice: two answers that one of them allows are equal, and so is what they leave in lent memory. Those of
 -- `gorvlime_layout` and of the walks are `unique` of layout/proofs/Unique, `unique-walk` and `unique-walk-new` of dump/proofs/Unique; those of the calls by
--- their Rattle names stand there, in field/proofs/Unique, moves/proofs/Unique and hex/proofs/Unique, but for `part`.
+-- their Rattle names stand there, in reading/proofs/Unique, writing/proofs/Unique, moves/proofs/Unique and hex/proofs/Unique, but for `part`.
 use Prim.Native.Nat.{ℕ}
 use mathlib.Core.Path.{_≡_, sym, ap, _∙_}
 use mathlib.Core.List.{List}

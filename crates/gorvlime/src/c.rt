@@ -5,7 +5,8 @@ ghost use mathlib.Core.Path.{_≡_};
 ghost use mathlib.Core.List.{_∷_, _++_};
 ghost use Rattle.code.specs.Calls.{filled, layoutFields, layoutReply, readReply, writeReply, writeLeaves};
 ghost use Rattle.code.specs.Many.{manyReply, manyLeaves};
-ghost use Rattle.field.specs.Answers.{readingOf, writingOf};
+ghost use Rattle.reading.specs.Answers.{readingOf};
+ghost use Rattle.writing.specs.Answers.{writingOf};
 ghost use Rattle.many.specs.Answers.{manyOf};
 ghost use Prim.Native.Nat.{_^_, _<_};
 ghost use lib.ListN.{take, drop, replicate};
@@ -41,11 +42,11 @@ pub extern "C" fn gorvlime_layout(s: Shape, g: u64) -> layout::Layout
     crate::lay_out(s, g)
 }
 
-fn flat_reading(a: field::Reading) -> ReadAnswer
+fn flat_reading(a: reading::Reading) -> ReadAnswer
     ensures { λ r. ⌜ readingFields r ≡ filled 4 (readingOf a) ⌝ }
 {
     match a {
-        field::Reading::Read {
+        reading::Reading::Read {
             generation,
             number,
             left,
@@ -55,7 +56,7 @@ fn flat_reading(a: field::Reading) -> ReadAnswer
             number,
             left,
         },
-        field::Reading::Refused(k) => ReadAnswer {
+        reading::Reading::Refused(k) => ReadAnswer {
             refusal: k,
             generation: 0,
             number: 0,
@@ -71,16 +72,16 @@ pub extern "C" fn gorvlime_read(s: Shape, cells: &[u8]) -> ReadAnswer
     flat_reading(crate::read(s, cells))
 }
 
-fn flat_writing(a: field::Writing) -> WriteAnswer
+fn flat_writing(a: writing::Writing) -> WriteAnswer
     ensures { λ r. ⌜ writingFields r ≡ filled 3 (writingOf a) ⌝ }
 {
     match a {
-        field::Writing::Written { generation, turned } => WriteAnswer {
+        writing::Writing::Written { generation, turned } => WriteAnswer {
             refusal: 0,
             generation,
             turned,
         },
-        field::Writing::Refused(k) => WriteAnswer {
+        writing::Writing::Refused(k) => WriteAnswer {
             refusal: k,
             generation: 0,
             turned: 0,

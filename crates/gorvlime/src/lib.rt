@@ -6,12 +6,12 @@ use code::Shape;
 use dump::Opened;
 use dump::Step;
 use dump::Walked;
-use field::Reading;
-use field::Writing;
 use layout::Layout;
 use many::Many;
 use moves::Moved;
+use reading::Reading;
 use storing::Made;
+use writing::Writing;
 ghost use mathlib.Core.Path.{_≡_};
 ghost use mathlib.Core.List.{_∷_};
 ghost use lib.ListN.{take, drop};
@@ -21,7 +21,8 @@ ghost use Rattle.code.specs.declared.Kind.the-variants.{Old, New};
 ghost use Rattle.code.specs.Dump.{oldExport, newExport, exportReply, exportLeaves, openReply, stepReply, walkReply, walkLeaves};
 ghost use Rattle.code.specs.NewDump.{layoutExportReply, layoutExportLeaves, toNewReply, toNewLeaves, toOldReply, toOldLeaves};
 ghost use Rattle.code.specs.Hex.{hexExportReply, hexExportLeaves, hexImportReply, hexImportLeaves};
-ghost use Rattle.field.specs.Answers.{readingOf, writingOf};
+ghost use Rattle.reading.specs.Answers.{readingOf};
+ghost use Rattle.writing.specs.Answers.{writingOf};
 ghost use Rattle.many.specs.Answers.{manyOf};
 ghost use Rattle.dump.specs.Answers.{openedReply, stepOf, walkedOf};
 ghost use Rattle.moves.specs.Answers.{movedOf};
@@ -38,7 +39,7 @@ pub fn lay_out(s: Shape, g: u64) -> Layout
 pub fn read(s: Shape, cells: &[u8]) -> Reading
     ensures { λ r. ⌜ readingOf r ≡ readReply s (now (cells .entry)) ⌝ }
 {
-    field::read(s, cells)
+    reading::read(s, cells)
 }
 
 // A new number in a field.
@@ -46,7 +47,7 @@ pub fn write(s: Shape, cells: &mut [u8], number: u64) -> Writing
     ensures { λ r. ⌜ writingOf r ≡ writeReply s number (now (cells .entry)) ⌝ }
     ensures { λ r. ⌜ now (cells .exit) ≡ writeLeaves s number (now (cells .entry)) ⌝ }
 {
-    field::write(s, cells, number)
+    writing::write(s, cells, number)
 }
 
 // One number for each of the fields that lie end to end in the cells, written in order up to the first refusal.

@@ -13,8 +13,8 @@ use Rattle.code.specs.Dump.{cellsOf, outcome, stepReply, recordLine, lastLine, 
 use Rattle.code.proofs.Tests.{clash, same-test}
 use Rattle.code.proofs.ReadCall.{read-refusing}
 use Rattle.code.proofs.Walk.{walk-ended, walk-stopped, onward-taken}
-use Rattle.field.specs.Answers.{readingOf}
-use Rattle.field.specs.declared.Reading.{Reading}
+use Rattle.reading.specs.Answers.{readingOf}
+use Rattle.reading.specs.declared.Reading.{Reading}
 use Rattle.storing.specs.Put.{Put}
 use Rattle.storing.proofs.Put.{put-none, put-then, put-length, put-pastes}
 use Rattle.text.specs.Within.{PutWithin, closingLine}

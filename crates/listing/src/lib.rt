@@ -2,13 +2,13 @@
 use code::Kind;
 use dump::Halt;
 use dump::Step;
-use field::Reading;
+use reading::Reading;
 ghost use mathlib.Core.Path.{_≡_};
 ghost use mathlib.Core.Bool.{false};
 ghost use Prim.Native.Nat.{_+_, _≤_, _<_};
 ghost use lib.ListN.{length};
 ghost use Rattle.code.specs.Dump.{stepReply, recordLine};
-ghost use Rattle.field.specs.Answers.{readingOf};
+ghost use Rattle.reading.specs.Answers.{readingOf};
 ghost use Rattle.text.specs.Within.{PutWithin};
 ghost use Rattle.dump.specs.Answers.{dumpMost, Ready, stepOf};
 ghost use Rattle.listing.specs.Listing.{linesMost, Refusing, haltLines, Standing, GoesOn, Closed, LinesTold, Fills};

@@ -1,13 +1,13 @@
 // Document 02, §5: up to 64 numbers, written into as many fields of one layout that lie end to end.
 use code::Shape;
-use field::Writing;
+use writing::Writing;
 ghost use mathlib.Core.Path.{_≡_};
 ghost use mathlib.Core.List.{[], _∷_, _++_};
 ghost use Prim.Native.Nat.{_+_, _*_, _≤_};
 ghost use lib.ListN.{length, take, drop};
 ghost use Rattle.code.specs.Calls.{writeReply, writeLeaves};
 ghost use Rattle.code.specs.Many.{fieldBytes, manyReplies, manyCells, manyNumbers, manyTold, manyReply, manyLeaves};
-ghost use Rattle.field.specs.Answers.{writingOf};
+ghost use Rattle.writing.specs.Answers.{writingOf};
 ghost use Rattle.layout.specs.Plan.{Granted};
 ghost use Rattle.many.specs.Answers.{manyOf};
 
@@ -53,7 +53,7 @@ fn write_one(h: &[u64; 16], s: Shape, cells: &mut [u8], at: usize, size: usize, 
     ensures { λ r. ⌜ writingOf r ≡ writeReply s x (take size (drop at (now (cells .entry)))) ⌝ }
     ensures { λ r. ⌜ now (cells .exit) ≡ take at (now (cells .entry)) ++ (writeLeaves s x (take size (drop at (now (cells .entry)))) ++ drop size (drop at (now (cells .entry)))) ⌝ }
 {
-    field::write_granted(h, s, &mut cells[at..at + size], x)
+    writing::write_granted(h, s, &mut cells[at..at + size], x)
 }
 
 // Writes the numbers in order up to the first refusal.

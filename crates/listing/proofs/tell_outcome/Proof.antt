@@ -2,7 +2,7 @@
 use mathlib.Core.Path.{refl, ap}
 use native.Mathlib.Omega.{arith}
 use borrow.Author.Needs.{needs}
-use Rattle.field.specs.Answers.{readingOf}
+use Rattle.reading.specs.Answers.{readingOf}
 use Rattle.text.proofs.Laws.{wider}
 use Rattle.listing.proofs.Telling.{same-listing}
 use Rattle.listing.proofs.tell_outcome.Statement.{statement}

@@ -1,0 +1,65 @@
+-- The answers of read as replies, and what the functions between them cite.
+use Prim.Native.Nat.{ℕ, suc, _*_, _-_, _^_, _<_, _≤_}
+use mathlib.Core.Path.{_≡_}
+use mathlib.Core.Bool.{cond}
+use mathlib.Core.List.{List, [], _∷_, _++_}
+use lib.Dec.{eqb}
+use lib.ListN.{length, take, replicate}
+use Rattle.code.specs.declared.Shape.{Shape}
+use Rattle.code.specs.Shape.{firstOf, rangesOf, orderOf, countsOf, widthOf}
+use Rattle.code.specs.Cells.{opened}
+use Rattle.code.specs.Field as Field
+use Rattle.words.specs.Words.{wordGroups, Tidy, frontGroups}
+use Rattle.words.specs.Marks.{Ends}
+use Rattle.reading.specs.declared.Reading.{Reading}
+use Rattle.reading.specs.declared.Reading.the-variants.{Read, Refused}
+use Rattle.reading.specs.declared.Found.{Found}
+use Rattle.reading.specs.declared.Found.the-variants.{Blank, Number, Miscounted, Beyond}
+
+-- an enum answer as document 01's numbers: 0 and the values, or the refusal
+abbrev pub readingOf : Reading → List ℕ
+readingOf (Read generation number left) = 0 ∷ generation ∷ number ∷ left ∷ []
+readingOf (Refused k) = k ∷ []
+
+-- what sound cells read as
+abbrev pub foundOf : Found → Field.Reading
+foundOf Blank = Field.blank
+foundOf (Number i x) = Field.reads i x
+foundOf (Miscounted i u) = Field.miscounted i u
+foundOf (Beyond i) = Field.beyond i
+
+-- what is answered for a reading
+abbrev pub answerOf : Shape → Field.Reading → List ℕ
+answerOf s Field.blank = cond (eqb (s .form) 0) (0 ∷ 1 ∷ 0 ∷ s .t ∷ []) (11 ∷ [])
+answerOf s (Field.reads i x) = 0 ∷ i ∷ x ∷ (s .t - i) ∷ []
+answerOf s (Field.miscounted i u) = 4 ∷ []
+answerOf s (Field.beyond i) = 4 ∷ []
+
+-- the groups of a field in the first n words
+abbrev pub fieldGroups : Shape → ℕ → List ℕ → List ℕ
+fieldGroups s n words = take (widthOf s) (frontGroups (s .m) n words)
+
+-- the words hold the field's groups, and behind them groups of all ones
+pub record Holds (s : Shape) (n : ℕ) (words : List ℕ) : Type 0 where
+  pub long : length words ≡ 16
+  pub ends : Ends (s .m) n (widthOf s)
+  pub tidy : Tidy (s .m) n words
+  pub many : length (fieldGroups s n words) ≡ widthOf s
+  pub padded : frontGroups (s .m) n words ≡ fieldGroups s n words ++ replicate (wordGroups (s .m) * n - widthOf s) (2 ^ s .m - 1)
+
+-- n words hold the groups of the bytes bs, z of them zero, which read as r
+pub record Looked (s : Shape) (bs words : List ℕ) (n z : ℕ) (r : Field.Reading) : Type 0 where
+  pub holds : Holds s n words
+  pub same : fieldGroups s n words ≡ opened (orderOf s) (s .m) (widthOf s) bs
+  pub none : z ≡ Field.zeros (fieldGroups s n words)
+  pub read : r ≡ Field.read (2 ^ s .m - 1) (firstOf s) (countsOf s) (rangesOf s) (fieldGroups s n words)
+
+-- r tells the number y, as far as 2^56
+pub record Close (y r : ℕ) : Type 0 where
+  pub exact : r < 2 ^ 56 → r ≡ y
+  pub large : 2 ^ 56 ≤ r → 2 ^ 56 ≤ y
+
+-- the number x is read at place i where it is below v, and else it is beyond the range
+pub record Ranged (i v x : ℕ) (r : Field.Reading) : Type 0 where
+  pub inside : x < v → r ≡ Field.reads (suc i) x
+  pub outside : v ≤ x → r ≡ Field.beyond (suc i)

@@ -1,0 +1,4 @@
+pub mod Laying
+pub mod Rewriting
+pub mod Unique
+pub mod Demand

@@ -1,0 +1,41 @@
+-- The answers of write as replies, and what the functions between them cite.
+use Prim.Native.Nat.{ℕ, _≤_}
+use mathlib.Core.Path.{_≡_}
+use mathlib.Core.Bool.{cond}
+use mathlib.Core.List.{List, [], _∷_, _++_}
+use lib.Dec.{eqb}
+use lib.ListN.{length, getD}
+use Rattle.code.specs.declared.Shape.{Shape}
+use Rattle.code.specs.Shape.{countsOf, widthOf}
+use Rattle.code.specs.Deal.{written}
+use Rattle.code.specs.Field as Field
+use Rattle.words.specs.Words.{frontGroups}
+use Rattle.writing.specs.declared.Writing.{Writing}
+use Rattle.writing.specs.declared.Writing.the-variants.{Written, Refused}
+use Rattle.writing.specs.declared.Aim.{Aim}
+use Rattle.writing.specs.declared.Aim.the-variants.{At, Refused as NotAt}
+
+-- an enum answer as document 01's numbers: 0 and the values, or the refusal
+abbrev pub writingOf : Writing → List ℕ
+writingOf (Written generation turned) = 0 ∷ generation ∷ turned ∷ []
+writingOf (Refused k) = k ∷ []
+
+-- where a reading is written next, or the refusal that is left to it
+abbrev pub aimAt : ℕ → Field.Reading → Aim
+aimAt t Field.blank = At 0
+aimAt t (Field.reads i x) = cond (eqb i t) (NotAt 5) (At i)
+aimAt t (Field.miscounted i u) = NotAt 4
+aimAt t (Field.beyond i) = NotAt 4
+
+-- groups that may be written at place i, z of them zero
+pub record Ready (s : Shape) (i z : ℕ) (gs : List ℕ) : Type 0 where
+  pub none : z ≡ Field.zeros gs
+  pub blank : i ≡ 0 → written gs ≡ 0
+  pub enough : getD (countsOf s) i 0 ≤ z
+
+-- the field's groups in the words are gs
+pub record Carries (s : Shape) (n : ℕ) (gs words : List ℕ) : Type 0 where
+  pub long : length words ≡ 16
+  pub many : length gs ≡ widthOf s
+  pub behind : List ℕ
+  pub made : frontGroups (s .m) n words ≡ gs ++ behind

@@ -1,0 +1,230 @@
+// Writing one field: document 01, "Writing", with the refusals in the table's order.
+use code::Shape;
+use reading::Found;
+ghost use mathlib.Core.Path.{_≡_};
+ghost use mathlib.Core.Bool.{true};
+ghost use Prim.Native.Nat.{suc, _+_, _-_, _^_, _<_, _≤_};
+ghost use lib.ListN.{length};
+ghost use Rattle.code.specs.Count.{fewer};
+ghost use Rattle.code.specs.Layout.{room};
+ghost use Rattle.code.specs.Shape.{firstOf, orderOf, countsOf, widthOf};
+ghost use Rattle.code.specs.Cells.{sound};
+ghost use Rattle.code.specs.Deal.{deal, plainly};
+ghost use Rattle.code.specs.Chosen.{patternMost};
+ghost use Rattle.code.specs.Field as Field;
+ghost use Rattle.code.specs.Calls.{writeReply, writeLeaves};
+ghost use Rattle.counting.specs.Cap.{cap};
+ghost use Rattle.words.specs.Words.{frontGroups};
+ghost use Rattle.words.specs.Marks.{ZeroMarked, Layered};
+ghost use Rattle.cells.specs.Cells.{Stored};
+ghost use Rattle.layout.specs.Plan.{Granted};
+ghost use Rattle.reading.specs.Answers.{foundOf, fieldGroups, Holds};
+ghost use Rattle.writing.specs.Answers.{writingOf, aimAt, Ready, Carries};
+
+pub enum Writing {
+    Written { generation: u64, turned: u64 },
+    Refused(u64),
+}
+
+// Where a reading is written next, or the refusal that is left to it.
+enum Aim {
+    At(usize),
+    Refused(u64),
+}
+
+fn take_aim(found: Found, t: u64) -> Aim
+    ensures { λ r. ⌜ r ≡ aimAt t (foundOf found) ⌝ }
+{
+    match found {
+        Found::Blank => Aim::At(0),
+        Found::Number {
+            generation,
+            number: _,
+        } => {
+            if generation == t {
+                return Aim::Refused(5);
+            }
+            Aim::At(generation as usize)
+        }
+        Found::Miscounted {
+            generation: _,
+            unerased: _,
+        } => Aim::Refused(4),
+        Found::Beyond { generation: _ } => Aim::Refused(4),
+    }
+}
+
+// Lays the digits of a number into the zero groups.
+fn lay_plain(
+    words: &mut [u64; 16],
+    marks: &[u64; 16],
+    n: usize,
+    m: usize,
+    places: u64,
+    e: u64,
+    x: u64,
+)
+    requires { ⌜ (ZeroMarked m n (now words) (now marks)) × (places ≡ Field.zeros (frontGroups m n (now words))) × (places ≤ patternMost) ⌝ }
+    requires { ⌜ (0 < e) × (e ≤ 15) × (e ≡ 2 ^ m - 1) × (x < e ^ places) ⌝ }
+    ensures { λ _. ⌜ Layered m n (plainly e places x) (now (words .entry)) (now (words .exit)) ⌝ }
+{
+    let mut values = [0u8; 64];
+    dealing::plainly(&mut values, places as usize, e, x);
+    words::lay_digits(words, marks, n, m, &values);
+}
+
+// Lays x as a pattern into the zero groups, which are so many places.
+fn lay_dealt(
+    words: &mut [u64; 16],
+    marks: &[u64; 16],
+    n: usize,
+    m: usize,
+    places: u64,
+    b: u64,
+    fewest: u64,
+    x: u64,
+)
+    requires { ⌜ (ZeroMarked m n (now words) (now marks)) × (places ≡ Field.zeros (frontGroups m n (now words))) × (places ≤ 256) ⌝ }
+    requires { ⌜ (0 < b) × (b ≤ 15) × (b ≤ 2 ^ m - 1) × (fewest ≤ 1) × (x < cap) × (x < fewer b places fewest (suc places)) ⌝ }
+    ensures { λ _. ⌜ Layered m n (deal b fewest places x) (now (words .entry)) (now (words .exit)) ⌝ }
+{
+    let mut labels = [0u8; 64];
+    let mut values = [0u8; 64];
+    let k = dealing::deal(&mut labels, &mut values, places, b, fewest, x);
+    words::lay(words, marks, n, m, places, &labels, &values, k);
+}
+
+// Lays the pattern of x into the zero groups, the places of a generation; `next` is the count of the one after it, 0 for the last.
+fn lay_number(
+    words: &mut [u64; 16],
+    marks: &[u64; 16],
+    n: usize,
+    m: usize,
+    places: u64,
+    e: u64,
+    b: u64,
+    fewest: u64,
+    next: u64,
+    x: u64,
+)
+    requires { ⌜ (ZeroMarked m n (now words) (now marks)) × (places ≡ Field.zeros (frontGroups m n (now words))) × (places ≤ 256) × (places ≤ next + patternMost) ⌝ }
+    requires { ⌜ (0 < e) × (e ≤ 15) × (e ≡ 2 ^ m - 1) × (0 < b) × (b ≤ e) × (fewest ≤ 1) × (x < cap) × (x < room e b fewest places next) ⌝ }
+    ensures { λ _. ⌜ Layered m n (Field.pattern e b fewest places next x) (now (words .entry)) (now (words .exit)) ⌝ }
+{
+    if next == 0 {
+        lay_plain(words, marks, n, m, places, e, x + 1);
+        return;
+    }
+    lay_dealt(words, marks, n, m, places, b, fewest, x);
+}
+
+// Erases what was used and what is spare, z groups being zero, and lays the pattern of x at place i.
+fn erase_and_lay(
+    h: &[u64; 16],
+    s: Shape,
+    i: usize,
+    x: u64,
+    z: u64,
+    words: &mut [u64; 16],
+    n: usize,
+    marks: &mut [u64; 16],
+)
+    requires { ⌜ (Granted s (now h)) × (i < s .t) × (x < s .v) × (length (now marks) ≡ 16) ⌝ }
+    requires { ⌜ (Holds s n (now words)) × (Ready s i z (fieldGroups s n (now words))) ⌝ }
+    ensures { λ _. ⌜ Carries s n (Field.after (2 ^ s .m - 1) (firstOf s) (countsOf s) i x (fieldGroups s n (now (words .entry)))) (now (words .exit)) ⌝ }
+{
+    let m = s.m as usize;
+    let e = layout::all_ones(s.m);
+    let places = h[i];
+    words::erase(words, n, m, z - places, marks);
+    let next = reading::next_count(h, s, i);
+    lay_number(
+        words,
+        marks,
+        n,
+        m,
+        places,
+        e,
+        reading::base(e, i),
+        reading::fewest(s, i),
+        next,
+        x,
+    );
+}
+
+// The write at place i of a number in range on sound cells, whose groups the words hold.
+fn write_at(
+    h: &[u64; 16],
+    s: Shape,
+    i: usize,
+    x: u64,
+    z: u64,
+    words: &mut [u64; 16],
+    n: usize,
+    marks: &mut [u64; 16],
+    cells: &mut [u8],
+) -> u64
+    requires { ⌜ (Granted s (now h)) × (i < s .t) × (x < s .v) × (length (now marks) ≡ 16) ⌝ }
+    requires { ⌜ (Holds s n (now words)) × (Ready s i z (fieldGroups s n (now words))) × (sound (orderOf s) (s .m) (widthOf s) (now cells) ≡ true) ⌝ }
+    ensures { λ r. ⌜ Stored (orderOf s) (s .m) (Field.after (2 ^ s .m - 1) (firstOf s) (countsOf s) i x (fieldGroups s n (now (words .entry)))) (now (cells .entry)) (now (cells .exit)) r ⌝ }
+{
+    erase_and_lay(h, s, i, x, z, words, n, marks);
+    cells::store(cells, layout::order(s), s.m as usize, h[0] as usize, words)
+}
+
+// The write of a number in range on sound cells.
+fn write_sound(h: &[u64; 16], s: Shape, cells: &mut [u8], x: u64) -> Writing
+    requires { ⌜ (Granted s (now h)) × (x < s .v) × (sound (orderOf s) (s .m) (widthOf s) (now cells) ≡ true) ⌝ }
+    ensures { λ r. ⌜ (writingOf r ≡ writeReply s x (now (cells .entry))) × (now (cells .exit) ≡ writeLeaves s x (now (cells .entry))) ⌝ }
+{
+    let mut words = [0u64; 16];
+    let mut marks = [0u64; 16];
+    let seen = reading::look_at(h, s, cells, &mut words, &mut marks);
+    let found = seen.found;
+    let aim = take_aim(found, s.t);
+    match aim {
+        Aim::At(i) => {
+            let turned = write_at(
+                h,
+                s,
+                i,
+                x,
+                seen.zeros,
+                &mut words,
+                seen.n,
+                &mut marks,
+                cells,
+            );
+            Writing::Written {
+                generation: i as u64 + 1,
+                turned,
+            }
+        }
+        Aim::Refused(k) => Writing::Refused(k),
+    }
+}
+
+// The write on a field whose layout is granted.
+pub fn write_granted(h: &[u64; 16], s: Shape, cells: &mut [u8], x: u64) -> Writing
+    requires { ⌜ Granted s (now h) ⌝ }
+    ensures { λ r. ⌜ (writingOf r ≡ writeReply s x (now (cells .entry))) × (now (cells .exit) ≡ writeLeaves s x (now (cells .entry))) ⌝ }
+{
+    if !cells::is_sound(cells, layout::order(s), s.m as usize, h[0] as usize) {
+        return Writing::Refused(3);
+    }
+    if s.v <= x {
+        return Writing::Refused(6);
+    }
+    write_sound(h, s, cells, x)
+}
+
+pub fn write(s: Shape, cells: &mut [u8], x: u64) -> Writing
+    ensures { λ r. ⌜ (writingOf r ≡ writeReply s x (now (cells .entry))) × (now (cells .exit) ≡ writeLeaves s x (now (cells .entry))) ⌝ }
+{
+    let mut h = [0u64; 16];
+    let refusal = layout::lay_into(&mut h, s, 256);
+    if refusal != 0 {
+        return Writing::Refused(refusal);
+    }
+    write_granted(&h, s, cells, x)
+}
