@@ -3,7 +3,7 @@
 use crate::cells;
 use crate::field::{self, Reading};
 use crate::layout::{Layouts, OldShape, GROUPS_OFFERED};
-use crate::refusal::{Refusal, Refused};
+use crate::refusal::Refusal;
 use crate::storing::store_in_front;
 
 pub const LONGEST_DUMP: usize = 65_536;
@@ -75,7 +75,7 @@ pub struct Record<'dump> {
     pub shape: OldShape,
     pub start: usize,
     pub cells: &'dump [u8],
-    /// "Refusals 1 to 4 belong to that record and the walk goes on."
+    /// Refusals 1, 2, 3, 15 and 16 belong to the record and the walk goes on.
     pub outcome: Result<Reading, Refusal>,
 }
 
@@ -92,10 +92,10 @@ pub enum Ending {
 
 impl Ending {
     /// What stopped a walk.
-    pub fn refused(self) -> Option<Refused> {
+    pub fn refusal(self) -> Option<Refusal> {
         match self {
-            Ending::TooLong => Some(Refusal::TooManyBytes.into()),
-            Ending::Malformed { offset } => Some(Refused::malformed_at(offset)),
+            Ending::TooLong => Some(Refusal::TooManyBytes),
+            Ending::Malformed { offset } => Some(Refusal::MalformedRecord { offset }),
             Ending::EndOfDump => None,
         }
     }

@@ -21,7 +21,7 @@ pub struct Written {
     pub cells: Vec<u8>,
 }
 
-/// Refusals in the order 1, 2, 3, 11, 4.
+/// Refusals in the order 1, 2, 3, 11, 15, 16.
 pub fn read(shape: Shape, cells: &[u8], layouts: &mut Layouts) -> Result<Reading, Refusal> {
     let layout = layouts.grant(shape, GROUPS_OFFERED)?;
     let groups = cells::groups_of(&layout, cells)?;
@@ -29,10 +29,10 @@ pub fn read(shape: Shape, cells: &[u8], layouts: &mut Layouts) -> Result<Reading
     if is_blank(&groups) && !layout.blank_is_a_pattern() {
         return Err(Refusal::Blank);
     }
-    reading_of(&layout, &groups, &mut layouts.counting).ok_or(Refusal::NoReading)
+    reading_of(&layout, &groups, &mut layouts.counting)
 }
 
-/// Refusals in the order 1, 2, 3, 6, 4, 5. The lent cells stay as they are; an
+/// Refusals in the order 1, 2, 3, 6, 15, 16, 5. The lent cells stay as they are; an
 /// accepted write answers the new ones.
 pub fn write(
     shape: Shape,
@@ -68,7 +68,7 @@ fn generation_to_write(
     if is_blank(groups) {
         return Ok(1);
     }
-    let reading = reading_of(layout, groups, counting).ok_or(Refusal::NoReading)?;
+    let reading = reading_of(layout, groups, counting)?;
     if reading.generation == layout.generations() {
         return Err(Refusal::LastGenerationUsed);
     }
@@ -83,23 +83,35 @@ fn zeros_among(groups: &[u64]) -> usize {
     groups.iter().filter(|group| **group == 0).count()
 }
 
-fn reading_of(layout: &Layout, groups: &[u64], counting: &mut Counting) -> Option<Reading> {
+/// The generation is the one that the zero groups point to, and a refusal tells it.
+fn reading_of(
+    layout: &Layout,
+    groups: &[u64],
+    counting: &mut Counting,
+) -> Result<Reading, Refusal> {
     let generation = generation_of(layout, zeros_among(groups));
     let places = places_of(generation, layout, groups);
-    // "From generation 2 on the unerased groups must number exactly h_i."
-    if places.len() != layout.count(generation) {
-        return None;
+    // "From generation 2 on the unerased groups must number exactly h_i." In generation
+    // 1 the places are all h_1 groups, so that this never refuses it.
+    let unerased = places.len();
+    if unerased != layout.count(generation) {
+        return Err(Refusal::Miscounted {
+            generation,
+            unerased,
+        });
     }
     let number = match layout.deal(generation) {
         Some(deal) => deal.number(&places, counting),
-        None => dealing::last_number(&places, layout.erased())?,
+        None => dealing::last_number(&places, layout.erased())
+            .expect("fewer than h_t zero groups leave a digit that is not 0"),
     };
     // "The number must be below v."
-    let number = number.to_u64().filter(|number| *number < layout.range())?;
+    let in_range = number.to_u64().filter(|number| *number < layout.range());
+    let number = in_range.ok_or(Refusal::Beyond { generation })?;
     // "Writes left: t for all-zero cells, else t less the generation."
     let used = if is_blank(groups) { 0 } else { generation };
     let left = layout.generations() - used;
-    Some(Reading {
+    Ok(Reading {
         generation,
         number,
         left,

@@ -30,8 +30,8 @@ fn listing(records: impl Iterator<Item = String>, ending: Ending) -> String {
     match ending {
         Ending::TooLong => return format!("refused {}\n", Refusal::TooManyBytes.number()),
         Ending::Malformed { offset } => {
-            let refusal = Refusal::MalformedRecord.number();
-            lines.push(format!("stopped {} at {}", refusal, offset));
+            let refusal = Refusal::MalformedRecord { offset };
+            lines.push(format!("stopped {} at {}", refusal.number(), offset));
         }
         Ending::EndOfDump => {}
     }
@@ -39,6 +39,7 @@ fn listing(records: impl Iterator<Item = String>, ending: Ending) -> String {
     lines.join("\n") + "\n"
 }
 
+/// A refusal is told by its number alone.
 fn line(serial: u64, outcome: Result<Reading, Refusal>) -> String {
     match outcome {
         Ok(reading) => format!(

@@ -5,7 +5,7 @@ use crate::cells;
 use crate::dump::{self, Ending, Unread, LARGEST_SERIAL, LONGEST_DUMP};
 use crate::field::{self, Reading};
 use crate::layout::{Layouts, OldShape, Shape, GROUPS_OFFERED};
-use crate::refusal::{Refusal, Refused};
+use crate::refusal::Refusal;
 use crate::storing::store_in_front;
 
 /// "The count of layouts (at most 64)".
@@ -79,7 +79,7 @@ pub struct Record<'dump> {
     pub layout: Listed,
     pub start: usize,
     pub cells: &'dump [u8],
-    /// Refusals 1, 2, 3, 11 and 4 belong to the record and the walk goes on.
+    /// Refusals 1, 2, 3, 11, 15 and 16 belong to the record and the walk goes on.
     pub outcome: Result<Reading, Refusal>,
 }
 
@@ -190,17 +190,17 @@ fn head_in_front(count: usize, bytes: &[u8]) -> Option<(Head, &[u8])> {
 
 /// Refusals in the order 8, 7, 13, 8, 9; an accepted move answers the length of the
 /// dump that it stored at the front of the output.
-pub fn move_to_new(dump: &[u8], output: &mut [u8]) -> Result<usize, Refused> {
-    Ok(store_in_front(&moved_to_new(dump)?, output)?)
+pub fn move_to_new(dump: &[u8], output: &mut [u8]) -> Result<usize, Refusal> {
+    store_in_front(&moved_to_new(dump)?, output)
 }
 
 /// Refusals in the order 8, 7, 12, 8, 9.
-pub fn move_to_old(dump: &[u8], output: &mut [u8]) -> Result<usize, Refused> {
-    Ok(store_in_front(&moved_to_old(dump)?, output)?)
+pub fn move_to_old(dump: &[u8], output: &mut [u8]) -> Result<usize, Refusal> {
+    store_in_front(&moved_to_old(dump)?, output)
 }
 
 /// "Layouts in order of first use". Readings are not looked at, nor are bounds.
-pub fn moved_to_new(dump: &[u8]) -> Result<Vec<u8>, Refused> {
+pub fn moved_to_new(dump: &[u8]) -> Result<Vec<u8>, Refusal> {
     let (records, ending) = dump::unread_records(dump);
     refuse_stopped(ending)?;
     let mut used: Vec<OldShape> = Vec::new();
@@ -218,14 +218,14 @@ pub fn moved_to_new(dump: &[u8]) -> Result<Vec<u8>, Refused> {
         ));
     }
     if used.len() > MOST_LAYOUTS {
-        return Err(Refusal::TooManyLayouts.into());
+        return Err(Refusal::TooManyLayouts);
     }
     let listed: Vec<Listed> = used.iter().map(|shape| shape.in_form_0().into()).collect();
     no_longer_than_a_dump([list_bytes(&listed), moved].concat())
 }
 
 /// "12 for a listed form, used or not": each layout has to have an old shape.
-pub fn moved_to_old(dump: &[u8]) -> Result<Vec<u8>, Refused> {
+pub fn moved_to_old(dump: &[u8]) -> Result<Vec<u8>, Refusal> {
     let unwalked = unwalked(dump);
     refuse_stopped(unwalked.ending)?;
     let shapes: Option<Vec<OldShape>> = unwalked.listed.iter().map(Listed::old_shape).collect();
@@ -238,17 +238,17 @@ pub fn moved_to_old(dump: &[u8]) -> Result<Vec<u8>, Refused> {
 }
 
 /// "7 and 8 first".
-fn refuse_stopped(ending: Ending) -> Result<(), Refused> {
-    match ending.refused() {
-        Some(refused) => Err(refused),
+fn refuse_stopped(ending: Ending) -> Result<(), Refusal> {
+    match ending.refusal() {
+        Some(refusal) => Err(refusal),
         None => Ok(()),
     }
 }
 
 /// "8 again where the moved dump would pass 65,536 bytes".
-fn no_longer_than_a_dump(moved: Vec<u8>) -> Result<Vec<u8>, Refused> {
+fn no_longer_than_a_dump(moved: Vec<u8>) -> Result<Vec<u8>, Refusal> {
     match moved.len() > LONGEST_DUMP {
-        true => Err(Refusal::TooManyBytes.into()),
+        true => Err(Refusal::TooManyBytes),
         false => Ok(moved),
     }
 }

@@ -2,7 +2,7 @@
 
 mod common;
 
-use common::{read, reading, write, written};
+use common::{beyond, miscounted, read, reading, write, written};
 use second::dump::{self, Ending};
 use second::layout::{Layouts, Shape};
 use second::listing::fieldlist;
@@ -74,16 +74,17 @@ fn writing_0_to_blank_cells_uses_no_generation() {
 #[test]
 fn readings_at_the_edge_of_the_range() {
     assert_eq!(read(RANGE_4, &[0x23]), reading(2, 3, 1));
-    assert_eq!(read(RANGE_4, &[0x43]), Err(Refusal::NoReading));
-    assert_eq!(read(RANGE_4, &[0x0f]), Err(Refusal::NoReading));
-    assert_eq!(read(RANGE_4, &[0xff]), Err(Refusal::NoReading));
+    assert_eq!(read(RANGE_4, &[0x43]), beyond(2));
+    assert_eq!(read(RANGE_4, &[0x0f]), miscounted(2, 2));
+    assert_eq!(read(RANGE_4, &[0xf0]), miscounted(2, 2));
+    assert_eq!(read(RANGE_4, &[0xff]), miscounted(3, 0));
 }
 
 #[test]
 fn numbers_of_range_20() {
     assert_eq!(write(RANGE_20, 16, &[0, 0]), written(1, 2, &[0x01, 0x40]));
     assert_eq!(write(RANGE_20, 19, &[0, 0]), written(1, 2, &[0x02, 0x40]));
-    assert_eq!(read(RANGE_20, &[0x02, 0x80]), Err(Refusal::NoReading));
+    assert_eq!(read(RANGE_20, &[0x02, 0x80]), beyond(1));
 }
 
 #[test]
@@ -123,7 +124,11 @@ fn refusals_come_in_the_order_of_the_table() {
     let unreadable = [0x02, 0x80];
     let refused = write(RANGE_20, 20, &unreadable);
     assert_eq!(refused, Err(Refusal::NumberOutOfRange));
-    assert_eq!(write(RANGE_20, 1, &unreadable), Err(Refusal::NoReading));
+    assert_eq!(write(RANGE_20, 1, &unreadable), beyond(1));
+    let refused = write(RANGE_4, 4, &[0x43]);
+    assert_eq!(refused, Err(Refusal::NumberOutOfRange));
+    assert_eq!(write(RANGE_4, 3, &[0x43]), beyond(2));
+    assert_eq!(write(RANGE_4, 3, &[0x0f]), miscounted(2, 2));
     let used_up = write(RANGE_20, 20, &[0xc1, 0xc0]);
     assert_eq!(used_up, Err(Refusal::NumberOutOfRange));
 }
@@ -144,7 +149,7 @@ const SAMPLE: [u8; 27] = [
 #[test]
 fn the_fieldlist_sample() {
     let printed = fieldlist(&SAMPLE, &mut Layouts::default());
-    let due = "7 3 2 0\n300 1 1 1\n8 1 0 3\n9 refused 4\nrecords 4\n";
+    let due = "7 3 2 0\n300 1 1 1\n8 1 0 3\n9 refused 16\nrecords 4\n";
     assert_eq!(printed, due);
 }
 

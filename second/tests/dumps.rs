@@ -108,7 +108,7 @@ fn a_cut_off_dump_stops_at_the_first_byte_of_its_last_record() {
 }
 
 #[test]
-fn the_walk_goes_on_after_refusals_1_3_and_4() {
+fn the_walk_goes_on_after_refusals_1_3_15_and_16() {
     let bad_shape = OldShape {
         m: LARGEST,
         ..SHAPE
@@ -117,8 +117,9 @@ fn the_walk_goes_on_after_refusals_1_3_and_4() {
         dump::record_bytes(1, bad_shape, &[0]),
         dump::record_bytes(2, SHAPE, &[0, 0]),
         dump::record_bytes(3, SHAPE, &[]),
-        dump::record_bytes(4, SHAPE, &[0xff]),
-        dump::record_bytes(5, SHAPE, &[0x23]),
+        dump::record_bytes(4, SHAPE, &[0x0f]),
+        dump::record_bytes(5, SHAPE, &[0x43]),
+        dump::record_bytes(6, SHAPE, &[0x23]),
     ];
     let read = Reading {
         generation: 2,
@@ -129,7 +130,11 @@ fn the_walk_goes_on_after_refusals_1_3_and_4() {
         Err(Refusal::OutOfBounds),
         Err(Refusal::WrongBytes),
         Err(Refusal::WrongBytes),
-        Err(Refusal::NoReading),
+        Err(Refusal::Miscounted {
+            generation: 2,
+            unerased: 2,
+        }),
+        Err(Refusal::Beyond { generation: 2 }),
         Ok(read),
     ];
     assert_eq!(outcomes(&dump.concat()), (due, Ending::EndOfDump));

@@ -133,20 +133,59 @@ impl Field {
     }
 
     fn reading_due(&self, cells: &[u8]) -> Result<Reading, Refusal> {
-        if self.groups(cells).is_none() {
-            return Err(Refusal::WrongBytes);
-        }
+        let groups = self.groups(cells).ok_or(Refusal::WrongBytes)?;
         if is_blank(cells) && self.shape.form == 1 {
             return Err(Refusal::Blank);
         }
-        let found = self.readable.get(cells).ok_or(Refusal::NoReading)?;
-        let (generation, number) = *found;
+        let (generation, number) = match self.readable.get(cells) {
+            Some(found) => *found,
+            None => return Err(self.refusal_due(&groups)),
+        };
         let left = self.counts.len() - if is_blank(cells) { 0 } else { generation };
         Ok(Reading {
             generation,
             number,
             left,
         })
+    }
+
+    fn unerased(&self, groups: &[u64]) -> Vec<u64> {
+        let is_unerased = |group: &u64| *group != self.erased();
+        groups.iter().copied().filter(is_unerased).collect()
+    }
+
+    /// Whether so many zero groups point to a generation.
+    fn points_to(&self, generation: usize, groups: &[u64]) -> bool {
+        let zeros = groups.iter().filter(|group| **group == 0).count();
+        let is_below = generation == 1 || zeros < self.counts[generation - 1];
+        is_below && zeros >= self.counts.get(generation).copied().unwrap_or(0)
+    }
+
+    /// Why cells that stand for no number are refused, told from counts alone.
+    fn refusal_due(&self, groups: &[u64]) -> Refusal {
+        let mut generations = 1..=self.counts.len();
+        let generation = generations
+            .find(|generation| self.points_to(*generation, groups))
+            .expect("every count of zero groups points to a generation");
+        let unerased = self.unerased(groups).len();
+        if generation == 1 || unerased == self.counts[generation - 1] {
+            return Refusal::Beyond { generation };
+        }
+        Refusal::Miscounted {
+            generation,
+            unerased,
+        }
+    }
+
+    /// The number that the list has for the groups as cells of a generation.
+    fn listed_number(&self, generation: usize, groups: &[u64]) -> Option<u64> {
+        let pattern = match generation {
+            1 => groups.to_vec(),
+            _ => self.unerased(groups),
+        };
+        let mut listed = self.listed[generation - 1].iter();
+        let place = listed.position(|other| *other == pattern);
+        place.map(|place| place as u64)
     }
 
     /// The section "Writing" with the pattern looked up in the list.
@@ -274,6 +313,47 @@ fn every_buffer_of_small_fields() {
                 let refused = field::write(shape, 0, &cells, &mut layouts);
                 assert_eq!(refused, field.write_due(&cells, 0));
             }
+        }
+    }
+}
+
+/// Whether the reading of a buffer is refused with 15 or 16, each of which has to be true
+/// of the buffer and to carry what its groups say.
+fn is_refused_rightly(field: &Field, cells: &[u8], layouts: &mut Layouts) -> bool {
+    let groups = field.groups(cells).expect("no left-over bit is set");
+    match field::read(field.shape, cells, layouts) {
+        Err(Refusal::Miscounted {
+            generation,
+            unerased,
+        }) => {
+            assert!(generation > 1);
+            assert!(field.points_to(generation, &groups));
+            assert_eq!(unerased, field.unerased(&groups).len());
+            assert_ne!(unerased, field.counts[generation - 1]);
+            true
+        }
+        Err(Refusal::Beyond { generation }) => {
+            assert!(field.points_to(generation, &groups));
+            let number = field.listed_number(generation, &groups);
+            assert!(number.expect("a pattern is on the places") >= field.shape.v);
+            true
+        }
+        _ => false,
+    }
+}
+
+/// Two refusals are there now where there was one, for cells that are no number of any
+/// generation. Of those, blank cells of form 1 are refused before.
+#[test]
+fn buffers_that_stand_for_no_number_are_miscounted_or_beyond() {
+    let mut layouts = Layouts::default();
+    for (shape, counts) in fields() {
+        let field = Field::new(shape, counts);
+        let bytes = (shape.m as usize * counts[0] + 7) / 8;
+        let sound = every_buffer(bytes).filter(|cells| field.groups(cells).is_some());
+        for cells in sound.filter(|cells| shape.form == 0 || !is_blank(cells)) {
+            let is_refused = is_refused_rightly(&field, &cells, &mut layouts);
+            assert_eq!(is_refused, !field.readable.contains_key(&cells));
         }
     }
 }

@@ -140,18 +140,20 @@ fn kind_in_form_1(call: &Call, layouts: &mut Layouts) -> Option<String> {
     Some(format!("{}{}{}: {}", operation, state, above, refusal))
 }
 
-const KINDS_IN_FORM_1: [&str; 12] = [
+const KINDS_IN_FORM_1: [&str; 14] = [
     "read blank: 11",
     "read left over: 3",
     "read: 0",
     "read: 3",
-    "read: 4",
+    "read: 15",
+    "read: 16",
     "write blank in range: 0",
     "write blank v: 6",
     "write blank above v: 6",
     "write left over in range: 3",
-    "write in range: 4",
     "write in range: 5",
+    "write in range: 15",
+    "write in range: 16",
     "write v: 6",
 ];
 

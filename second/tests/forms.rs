@@ -2,7 +2,7 @@
 
 mod common;
 
-use common::{read, reading, write, written};
+use common::{beyond, miscounted, read, reading, write, written};
 use second::cells;
 use second::field;
 use second::layout::{Layouts, Shape};
@@ -48,9 +48,11 @@ fn readings_in_both_forms() {
     assert_eq!(read(range_4(1), &[0x00]), Err(Refusal::Blank));
     assert_eq!(read(range_4(1), &[0x01]), reading(1, 0, 2));
     assert_eq!(read(range_4(1), &[0x04]), reading(1, 3, 2));
-    assert_eq!(read(range_4(1), &[0x08]), Err(Refusal::NoReading));
-    assert_eq!(read(range_20(0), &[0x02, 0x80]), Err(Refusal::NoReading));
+    assert_eq!(read(range_4(1), &[0x08]), beyond(1));
+    assert_eq!(read(range_4(1), &[0x0f]), miscounted(2, 2));
+    assert_eq!(read(range_20(0), &[0x02, 0x80]), beyond(1));
     assert_eq!(read(range_20(1), &[0x02, 0x80]), reading(1, 19, 1));
+    assert_eq!(read(range_20(1), &[0x02, 0xc0]), beyond(1));
 }
 
 #[test]
@@ -170,7 +172,7 @@ fn on_the_same_list_numbers_of_generation_1_are_those_of_form_0_less_1() {
         // The last pattern of form 1 is one that form 0 has no number for.
         let last = field::write(form_1, v - 1, &blank, &mut layouts).expect("it is in range");
         let refused = field::read(form_0, &last.cells, &mut layouts);
-        assert_eq!(refused, Err(Refusal::NoReading));
+        assert_eq!(refused, beyond(1));
     }
 }
 

@@ -38,14 +38,19 @@ fn refusal_of_all(shape: Shape, numbers: &[u64], cells: &[u8]) -> Option<u8> {
     refusal.map(Refusal::number)
 }
 
-/// Generation and turned count of each field written, and the refusal's number of the
-/// field behind them.
-type Told = (Vec<(usize, u64)>, Option<u8>);
+/// Generation and turned count of each field written, and of the refused one behind them
+/// the refusal's number and what it carries.
+type Told = (Vec<(usize, u64)>, Vec<usize>);
+
+fn told_of_stop(refusal: Refusal) -> Vec<usize> {
+    [vec![refusal.number().into()], refusal.carried()].concat()
+}
 
 fn told_of(many: &ManyWritten) -> Told {
     let fields = many.fields.iter();
     let pairs = fields.map(|field| (field.generation, field.turned));
-    (pairs.collect(), many.stop.map(Refusal::number))
+    let stop = many.stop.map_or_else(Vec::new, told_of_stop);
+    (pairs.collect(), stop)
 }
 
 fn assert_written(shape: Shape, numbers: &[u64], cells: &str, after: &str, told: Told) {
@@ -56,58 +61,61 @@ fn assert_written(shape: Shape, numbers: &[u64], cells: &str, after: &str, told:
 
 #[test]
 fn fields_that_are_all_written() {
-    let told = (vec![(1, 2), (1, 1), (1, 1)], None);
+    let told = (vec![(1, 2), (1, 1), (1, 1)], vec![]);
     assert_written(SMALL, &[3, 1, 2], "00 00 00", "03 01 02", told);
     let form_1 = Shape { form: 1, ..SMALL };
-    let told = (vec![(1, 1); 3], None);
+    let told = (vec![(1, 1); 3], vec![]);
     assert_written(form_1, &[0, 0, 0], "00 00 00", "01 01 01", told);
     // In form 0 a 0 on blank cells is a write that turns no wit.
-    let told = (vec![(1, 0), (2, 1), (1, 0)], None);
+    let told = (vec![(1, 0), (2, 1), (1, 0)], vec![]);
     assert_written(SMALL, &[0, 1, 0], "00 03 00", "00 0B 00", told);
-    assert_written(SMALL, &[], "", "", (vec![], None));
+    assert_written(SMALL, &[], "", "", (vec![], vec![]));
 }
 
 #[test]
 fn the_first_refused_field_stops_the_call() {
-    let told = (vec![(2, 1)], Some(5));
+    let told = (vec![(2, 1)], vec![5]);
     assert_written(SMALL, &[1, 1, 1], "03 4F 00", "0B 4F 00", told);
-    let told = (vec![(1, 2)], Some(6));
+    let told = (vec![(1, 2)], vec![6]);
     assert_written(SMALL, &[3, 4, 2], "00 00 00", "03 00 00", told);
-    let told = (vec![(1, 2), (1, 1)], Some(4));
+    let told = (vec![(1, 2), (1, 1)], vec![16, 2]);
     assert_written(SMALL, &[3, 1, 2], "00 00 43", "03 01 43", told);
-    assert_written(SMALL, &[1, 3], "4F 00", "4F 00", (vec![], Some(5)));
+    let told = (vec![(2, 1)], vec![15, 2, 2]);
+    assert_written(SMALL, &[1, 1, 1], "03 0F 00", "0B 0F 00", told);
+    assert_written(SMALL, &[1, 3], "4F 00", "4F 00", (vec![], vec![5]));
 }
 
 #[test]
 fn a_left_over_bit_is_refused_when_its_field_is_reached() {
-    let told = (vec![(2, 4)], Some(3));
+    let told = (vec![(2, 4)], vec![3]);
     let (before, after) = ("00 40 00 41 00 40", "C1 C0 00 41 00 40");
     assert_written(OF_20, &[0, 0, 0], before, after, told);
-    let told = (vec![(1, 2), (1, 2)], Some(3));
+    let told = (vec![(1, 2), (1, 2)], vec![3]);
     let (before, after) = ("00 00 00 00 00 01", "01 40 02 40 00 01");
     assert_written(OF_20, &[16, 19, 0], before, after, told);
-    assert_written(OF_20, &[0], "00 41", "00 41", (vec![], Some(3)));
+    assert_written(OF_20, &[0], "00 41", "00 41", (vec![], vec![3]));
 }
 
 #[test]
-fn a_field_is_refused_in_the_order_3_6_4_5() {
+fn a_field_is_refused_in_the_order_3_6_15_16_5() {
     let stop = |number: u64, cells: &[u8]| {
         let many = write_many(OF_20, &[0, number], &[&[0, 0], cells].concat());
         let (pairs, stop) = told_of(&many.expect("its length is right"));
         assert_eq!(pairs, [(1, 0)]);
         stop
     };
-    // With a left-over bit: blank, without a reading, spent.
-    for cells in [[0x00, 0x01], [0x02, 0x81], [0xc1, 0xc1]] {
-        assert_eq!(stop(20, &cells), Some(3));
-        assert_eq!(stop(0, &cells), Some(3));
+    // With a left-over bit: blank, miscounted, beyond, spent.
+    for cells in [[0x00, 0x01], [0xff, 0xc1], [0x02, 0x81], [0xc1, 0xc1]] {
+        assert_eq!(stop(20, &cells), vec![3]);
+        assert_eq!(stop(0, &cells), vec![3]);
     }
-    for cells in [[0x00, 0x00], [0x02, 0x80], [0xc1, 0xc0]] {
-        assert_eq!(stop(20, &cells), Some(6));
-        assert_eq!(stop(u64::MAX, &cells), Some(6));
+    for cells in [[0x00, 0x00], [0xff, 0xc0], [0x02, 0x80], [0xc1, 0xc0]] {
+        assert_eq!(stop(20, &cells), vec![6]);
+        assert_eq!(stop(u64::MAX, &cells), vec![6]);
     }
-    assert_eq!(stop(19, &[0x02, 0x80]), Some(4));
-    assert_eq!(stop(19, &[0xc1, 0xc0]), Some(5));
+    assert_eq!(stop(19, &[0xff, 0xc0]), vec![15, 2, 0]);
+    assert_eq!(stop(19, &[0x02, 0x80]), vec![16, 1]);
+    assert_eq!(stop(19, &[0xc1, 0xc0]), vec![5]);
 }
 
 #[test]
@@ -153,7 +161,7 @@ fn a_stop_at_every_place() {
         let mut before = [0; 64];
         before[63] = if stop < 63 { 0x4f } else { 0 };
         let many = write_many(SMALL, &numbers, &before).expect("its length is right");
-        assert_eq!(told_of(&many), (vec![(1, 2); stop], Some(6)));
+        assert_eq!(told_of(&many), (vec![(1, 2); stop], vec![6]));
         assert_eq!(many.cells[..stop], vec![0x03; stop]);
         assert_eq!(many.cells[stop..], before[stop..]);
     }
@@ -203,10 +211,10 @@ fn single_writes(call: &ManyCall, cells: &mut [u8], layouts: &mut Layouts) -> To
                 field.copy_from_slice(&written.cells);
                 pairs.push((written.generation, written.turned));
             }
-            Err(refusal) => return (pairs, Some(refusal.number())),
+            Err(refusal) => return (pairs, told_of_stop(refusal)),
         }
     }
-    (pairs, None)
+    (pairs, Vec::new())
 }
 
 /// The made calls that are not refused before any write, and their answers.

@@ -52,7 +52,11 @@ fn lines_of_stops() {
     let line = many_line(OF_20, &[0; 3], &[0x00, 0x40, 0x00, 0x41, 0x00, 0x40]);
     assert_eq!(line, "many 3 field 1 2 4 c1c000410040\n");
     let line = many_line(SMALL, &[3, 1, 2], &[0x00, 0x00, 0x43]);
-    assert_eq!(line, "many 4 field 2 1 2 1 1 030143\n");
+    assert_eq!(line, "many 16 2 field 2 1 2 1 1 030143\n");
+    let line = many_line(SMALL, &[1, 1, 1], &[0x03, 0x0f, 0x00]);
+    assert_eq!(line, "many 15 2 2 field 1 2 1 0b0f00\n");
+    let line = many_line(SMALL, &[1], &[0xff]);
+    assert_eq!(line, "many 15 3 0 field 0 ff\n");
     assert_eq!(many_line(SMALL, &[4], &[0]), "many 6 field 0 00\n");
 }
 

@@ -59,22 +59,25 @@ fn kind_of_answer(call: &ManyCall, layouts: &mut Layouts) -> String {
     }
 }
 
-const ANSWERS: [&str; 20] = [
+const ANSWERS: [&str; 23] = [
     "14 before any write",
     "1 before any write",
     "3 before any write",
     "3 at the first field",
     "3 at the middle field",
     "3 at the last field",
-    "4 at the first field",
-    "4 at the middle field",
-    "4 at the last field",
     "5 at the first field",
     "5 at the middle field",
     "5 at the last field",
     "6 at the first field",
     "6 at the middle field",
     "6 at the last field",
+    "15 at the first field",
+    "15 at the middle field",
+    "15 at the last field",
+    "16 at the first field",
+    "16 at the middle field",
+    "16 at the last field",
     "nothing to write",
     "1 written",
     "some written",
@@ -189,8 +192,9 @@ fn fields_of_both_forms_at_every_generation() {
             "out of range: 3",
             "out of range: 6",
             "in range: 3",
-            "in range: 4",
             "in range: 5",
+            "in range: 15",
+            "in range: 16",
         ];
         assert_met_often(&met, &others);
         assert!(!met.contains_key("form 1 turns none"));

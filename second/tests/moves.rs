@@ -7,7 +7,7 @@ use octets::octets;
 use second::dump;
 use second::layout::{Layouts, OldShape, Shape};
 use second::newdump::{self, Listed};
-use second::refusal::{Refusal, Refused};
+use second::refusal::Refusal;
 
 const OLD: &str = "07 02 03 04 01 4F AC 02 02 02 14 02 00 40 08 02 03 04 01 00 \
                    09 02 02 14 02 02 80";
@@ -16,7 +16,7 @@ const NEW: &str = "02 00 02 03 04 00 02 02 14 07 00 01 4F AC 02 01 02 00 40 08 0
 const SHAPE: OldShape = OldShape { m: 2, t: 3, v: 4 };
 
 /// What a move answers, and its output afterwards.
-type Moved = (Result<usize, Refused>, Vec<u8>);
+type Moved = (Result<usize, Refusal>, Vec<u8>);
 
 fn to_new(dump: &[u8], room: usize) -> Moved {
     let mut output = vec![0xa5; room];
@@ -35,11 +35,11 @@ fn stored(bytes: &[u8], room: usize) -> Moved {
 }
 
 fn refused(refusal: Refusal, room: usize) -> Moved {
-    (Err(refusal.into()), vec![0xa5; room])
+    (Err(refusal), vec![0xa5; room])
 }
 
 fn malformed(offset: usize, room: usize) -> Moved {
-    (Err(Refused::malformed_at(offset)), vec![0xa5; room])
+    refused(Refusal::MalformedRecord { offset }, room)
 }
 
 #[test]
@@ -182,20 +182,20 @@ fn faults_of_a_list_and_of_a_record_keep_a_dump_where_it_is() {
     let new = octets(NEW);
     let ends = [9, 13, 19, 23, 28];
     for length in 0..=new.len() {
-        let answer = to_old(&new[..length], 50).0;
+        let answer = to_old(&new[..length], 50);
         match ends.iter().rev().find(|end| **end <= length) {
-            Some(end) if *end == length => assert!(answer.is_ok()),
-            Some(end) => assert_eq!(answer, Err(Refused::malformed_at(*end))),
-            None => assert_eq!(answer, Err(Refused::malformed_at(0))),
+            Some(end) if *end == length => assert!(answer.0.is_ok()),
+            Some(end) => assert_eq!(answer, malformed(*end, 50)),
+            None => assert_eq!(answer, malformed(0, 50)),
         }
     }
     let old = octets(OLD);
     let ends = [0, 6, 14, 20, 27];
     for length in 0..=old.len() {
-        let answer = to_new(&old[..length], 50).0;
+        let answer = to_new(&old[..length], 50);
         match ends.iter().rev().find(|end| **end <= length) {
-            Some(end) if *end < length => assert_eq!(answer, Err(Refused::malformed_at(*end))),
-            _ => assert!(answer.is_ok()),
+            Some(end) if *end < length => assert_eq!(answer, malformed(*end, 50)),
+            _ => assert!(answer.0.is_ok()),
         }
     }
 }

@@ -71,12 +71,12 @@ fn the_document_s_records_as_a_new_dump() {
         (7, 0, 12, read(3, 2, 0)),
         (300, 1, 17, read(1, 1, 1)),
         (8, 0, 22, read(1, 0, 3)),
-        (9, 1, 26, Err(Refusal::NoReading)),
+        (9, 1, 26, Err(Refusal::Beyond { generation: 1 })),
     ];
     assert_eq!(found, due);
     assert_eq!(walk.records[1].layout, Listed::from(RANGE_20));
     assert_eq!(walk.records[1].cells, [0x00, 0x40]);
-    let due = "7 3 2 0\n300 1 1 1\n8 1 0 3\n9 refused 4\nrecords 4\n";
+    let due = "7 3 2 0\n300 1 1 1\n8 1 0 3\n9 refused 16\nrecords 4\n";
     assert_eq!(listing(&dump), due);
 }
 
@@ -232,7 +232,7 @@ fn refusals_of_form_1_belong_to_the_record() {
     for (serial, cells) in (0..).zip(cells) {
         dump.extend(newdump::record_bytes(serial, 0, cells));
     }
-    let due = "0 refused 11\n1 refused 3\n2 refused 3\n3 1 19 1\n4 refused 4\nrecords 5\n";
+    let due = "0 refused 11\n1 refused 3\n2 refused 3\n3 1 19 1\n4 refused 15\nrecords 5\n";
     assert_eq!(listing(&dump), due);
 }
 

@@ -71,6 +71,9 @@ fn lines_of_walks() {
     let out_of_list = [&dump[..], &[9, 2, 0]].concat();
     let due = format!("{}stop 7 23\n", lines);
     assert_eq!(line_of(walk_call(&out_of_list)), due);
+    let unreadable = octets("01 01 02 03 04 07 00 01 0F 08 00 01 08");
+    let due = "record 7 0 1 2 3 4 8 1 15 2 2\nrecord 8 0 1 2 3 4 12 1 16 1\nend\n";
+    assert_eq!(line_of(walk_call(&unreadable)), due);
     let beyond = octets("01 02 05 11 00 07 00 00");
     let due = "record 7 0 2 5 17 0 8 0 1\nend\n";
     assert_eq!(line_of(walk_call(&beyond)), due);

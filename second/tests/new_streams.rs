@@ -47,12 +47,13 @@ fn kind_of(line: &str) -> String {
     }
 }
 
-const KINDS: [&str; 27] = [
+const KINDS: [&str; 28] = [
     "record 0",
     "record 1",
     "record 3",
-    "record 4",
     "record 11",
+    "record 15",
+    "record 16",
     "end",
     "stop at the list",
     "stop 7",
@@ -305,7 +306,7 @@ fn moves_of_63_to_66_layouts() {
                 }
             }
             let refused = newdump::moved_to_new(&dump).err();
-            let refusal = refused.map_or(0, |refused| refused.refusal.number());
+            let refusal = refused.map_or(0, |refusal| refusal.number());
             met.insert(format!("{} layouts: {}", shapes.len(), refusal));
             let again = records.len() > shapes.len();
             met.insert(format!("{} again {}", shapes.len(), again));

@@ -73,7 +73,9 @@ fn lines_of_layout_and_read() {
     assert_eq!(line_of(layout_call(4, 3)), "layout 2\n");
     assert_eq!(line_of(layout_call(1, 3)), "layout 1\n");
     assert_eq!(line_of(read_call(&[0x23])), "read 0 2 3 1\n");
-    assert_eq!(line_of(read_call(&[0x0f])), "read 4\n");
+    assert_eq!(line_of(read_call(&[0x0f])), "read 15 2 2\n");
+    assert_eq!(line_of(read_call(&[0xff])), "read 15 3 0\n");
+    assert_eq!(line_of(read_call(&[0x43])), "read 16 2\n");
     assert_eq!(line_of(read_call(&[])), "read 3\n");
 }
 
@@ -101,6 +103,9 @@ fn lines_of_write_and_export() {
     assert_eq!(line_of(write_call(3, &[0x00])), "write 0 1 2 03\n");
     assert_eq!(line_of(write_call(1, &[0x4f])), "write 5 4f\n");
     assert_eq!(line_of(write_call(4, &[0x4f])), "write 6 4f\n");
+    assert_eq!(line_of(write_call(4, &[0x43])), "write 6 43\n");
+    assert_eq!(line_of(write_call(3, &[0x0f])), "write 15 2 2 0f\n");
+    assert_eq!(line_of(write_call(3, &[0x43])), "write 16 2 43\n");
     assert_eq!(line_of(write_call(3, &[])), "write 3\n");
     let stored = line_of(export_call(7, 8, &[0x4f]));
     assert_eq!(stored, "export 0 6 07020304014fa5a5\n");
@@ -116,6 +121,9 @@ fn lines_of_walks() {
     let dump = [record, refused, vec![0x80]].concat();
     let due = "record 300 2 3 4 6 1 0 2 3 1\nrecord 1 2 3 4 12 0 3\nstop 7 12\n";
     assert_eq!(line_of(walk_call(&dump)), due);
+    let unreadable = [0x0f, 0x43].map(|cells| dump::record_bytes(1, OLD_SHAPE, &[cells]));
+    let due = "record 1 2 3 4 5 1 15 2 2\nrecord 1 2 3 4 11 1 16 2\nend\n";
+    assert_eq!(line_of(walk_call(&unreadable.concat())), due);
     assert_eq!(line_of(walk_call(&[])), "end\n");
     assert_eq!(line_of(walk_call(&[0; 65_537])), "stop 8\n");
 }

@@ -66,19 +66,21 @@ fn kinds(seed: u64) -> HashSet<String> {
 }
 
 /// But for the accepted reads and writes, which tell their generation.
-const KINDS: [&str; 34] = [
+const KINDS: [&str; 37] = [
     "layout 0",
     "layout 1",
     "layout 2",
     "read 1",
     "read 3",
-    "read 4",
     "read 11",
+    "read 15",
+    "read 16",
     "write 1",
     "write 3",
-    "write 4",
     "write 5",
     "write 6",
+    "write 15",
+    "write 16",
     "export 0",
     "export 1",
     "export 3",
@@ -87,7 +89,8 @@ const KINDS: [&str; 34] = [
     "record 0",
     "record 1",
     "record 3",
-    "record 4",
+    "record 15",
+    "record 16",
     "end",
     "stop 7",
     "stop 8",

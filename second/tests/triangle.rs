@@ -30,7 +30,11 @@ fn each_number_is_the_sum_of_the_two_above() {
     for n in 0..61 {
         assert_eq!((rows[n][0], rows[n][n]), (1, 1));
         for k in 1..n {
-            assert_eq!(rows[n][k], rows[n - 1][k - 1] + rows[n - 1][k], "C({n}, {k})");
+            assert_eq!(
+                rows[n][k],
+                rows[n - 1][k - 1] + rows[n - 1][k],
+                "C({n}, {k})"
+            );
         }
     }
 }

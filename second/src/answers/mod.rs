@@ -8,7 +8,7 @@ use crate::field;
 use crate::hex;
 use crate::layout::{Layouts, OldShape, Shape};
 use crate::protocol::{self, Call, Limits, Step};
-use crate::refusal::{Refusal, Refused};
+use crate::refusal::Refusal;
 use crate::values;
 use std::io::{self, Read, Write};
 
@@ -74,12 +74,11 @@ fn line(fields: &[String]) -> String {
     words.join(" ") + "\n"
 }
 
-fn refused(refusal: impl Into<Refused>) -> String {
-    let Refused { refusal, offset } = refusal.into();
-    match offset {
-        Some(offset) => format!("{} {}", refusal.number(), offset),
-        None => refusal.number().to_string(),
-    }
+/// The number, and at once what the refusal carries.
+fn refused(refusal: Refusal) -> String {
+    let mut words = vec![refusal.number().to_string()];
+    words.extend(refusal.carried().iter().map(usize::to_string));
+    words.join(" ")
 }
 
 fn in_hex(bytes: &[u8]) -> String {
@@ -105,10 +104,10 @@ fn write_line(shape: Shape, number: u64, cells: &[u8], layouts: &mut Layouts) ->
 
 /// The line of a call that stores something at the front of a lent output and
 /// answers its length.
-fn stored_line<R: Into<Refused>>(
+fn stored_line(
     operation: &str,
     output_length: u64,
-    call: impl FnOnce(&mut [u8]) -> Result<usize, R>,
+    call: impl FnOnce(&mut [u8]) -> Result<usize, Refusal>,
 ) -> String {
     let mut output = vec![OUTPUT_FILL; output_length as usize];
     let answer = match call(&mut output) {
@@ -126,8 +125,8 @@ fn walk_lines(dump: &[u8], layouts: &mut Layouts) -> String {
 }
 
 fn ending_line(ending: Ending) -> String {
-    match ending.refused() {
-        Some(stopped) => line(&["stop".to_string(), refused(stopped)]),
+    match ending.refusal() {
+        Some(refusal) => line(&["stop".to_string(), refused(refusal)]),
         None => "end\n".to_string(),
     }
 }

@@ -15,7 +15,7 @@ pub struct ManyCall {
     pub cells: Vec<u8>,
 }
 
-pub fn call_after(stream: &mut impl Read, limits: Limits) -> Result<ManyCall, Failure> {
+pub(super) fn call_after(stream: &mut impl Read, limits: Limits) -> Result<ManyCall, Failure> {
     Ok(ManyCall {
         shape: shape(stream)?,
         numbers: counted_numbers(stream)?,

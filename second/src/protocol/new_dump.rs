@@ -30,7 +30,7 @@ pub enum NewDumpCall {
     },
 }
 
-pub fn call_after(
+pub(super) fn call_after(
     operation: u8,
     stream: &mut impl Read,
     limits: Limits,

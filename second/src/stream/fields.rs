@@ -20,13 +20,14 @@ impl Maker {
         match self.chance.between(1, 100) {
             1..=8 => vec![0; cells::byte_count(&layout)],
             9..=11 => self.blank_cells_with_a_left_over_bit(&layout),
-            12..=38 => self.written_cells(shape, &layout),
-            39..=56 => self.patterned_cells(&layout),
-            57..=70 => self.edge_cells(&layout),
-            71..=78 => self.cells_one_wit_off(shape, &layout),
-            79..=84 => self.cells_with_wrong_erasures(&layout),
-            85..=90 => self.cells_with_wrong_bytes(shape, &layout),
-            91..=96 => self.random_cells(&layout),
+            12..=36 => self.written_cells(shape, &layout),
+            37..=48 => self.patterned_cells(&layout),
+            49..=62 => self.edge_cells(&layout),
+            63..=68 => self.cells_one_wit_off(shape, &layout),
+            69..=74 => self.cells_of_a_cut_off_write(shape, &layout),
+            75..=86 => self.miscounted_cells(&layout),
+            87..=91 => self.cells_with_wrong_bytes(shape, &layout),
+            92..=96 => self.random_cells(&layout),
             _ => cells_of_one_value(&layout, layout.erased()),
         }
     }
@@ -93,24 +94,47 @@ impl Maker {
         chosen.into_iter().map(value).collect()
     }
 
-    /// Cells whose number is 0, the last one in range, the first one beyond it, or
-    /// the last one the generation has a pattern for.
-    pub fn edge_cells(&mut self, layout: &Layout) -> Vec<u8> {
+    /// Cells whose number is 0 or the last one in range, or not below the range.
+    fn edge_cells(&mut self, layout: &Layout) -> Vec<u8> {
+        if self.chance.one_in(2) {
+            return self.cells_beyond(layout);
+        }
         let generation = 1 + self.chance.index(layout.generations());
+        let number = self.chance.pick(&[0, layout.range() - 1]);
+        self.cells_of_number(generation, layout, Whole::from(number))
+    }
+
+    /// The first number that is not below the range, or the last one the generation has
+    /// a pattern for. Where its patterns are as many as the range, there is none.
+    pub fn cells_beyond(&mut self, layout: &Layout) -> Vec<u8> {
+        let generation = self.generation_to_meet(1, layout);
+        let room = layout.room(generation, &mut self.layouts.counting);
+        let number = match self.chance.one_in(2) {
+            true => Whole::from(layout.range()),
+            false => room,
+        };
+        self.cells_of_number(generation, layout, number)
+    }
+
+    /// The first generation that may be taken, the last one, or any.
+    fn generation_to_meet(&mut self, first: usize, layout: &Layout) -> usize {
+        let last = layout.generations();
+        match self.chance.index(3) {
+            0 => first,
+            1 => last,
+            _ => first + self.chance.index(last - first + 1),
+        }
+    }
+
+    /// The number, or the last one below it that the generation has a pattern for, on
+    /// places by chance.
+    fn cells_of_number(&mut self, generation: usize, layout: &Layout, number: Whole) -> Vec<u8> {
         let erased = layout.groups() - layout.count(generation);
         let groups = self.groups_with_erased(layout, erased);
-        let room = layout.room(generation, &mut self.layouts.counting);
-        let below_room = room.minus(&Whole::from(1)).unwrap_or_else(Whole::zero);
-        let range = layout.range();
-        let number = match self.chance.index(4) {
-            0 => Whole::from(range - 1),
-            1 => Whole::from(range),
-            2 => Whole::from(0),
-            _ => below_room.clone(),
-        };
-        let number = number.min(below_room);
         let counting = &mut self.layouts.counting;
-        let pattern = field::pattern_for(generation, layout, &number, counting);
+        let room = layout.room(generation, counting);
+        let last = room.minus(&Whole::from(1)).unwrap_or_else(Whole::zero);
+        let pattern = field::pattern_for(generation, layout, &number.min(last), counting);
         let groups = field::with_pattern(&groups, &pattern.unwrap_or_default());
         cells::bytes_of_groups(layout, &groups)
     }
@@ -122,17 +146,64 @@ impl Maker {
         cells
     }
 
-    /// One erased group too many or too few for the pattern's generation.
-    pub fn cells_with_wrong_erasures(&mut self, layout: &Layout) -> Vec<u8> {
-        let generation = 1 + self.chance.index(layout.generations());
-        let due = layout.groups() - layout.count(generation);
-        let erased = match self.chance.one_in(2) {
-            true => due + 1,
-            false => due.saturating_sub(1),
+    /// A write of which some wits are turned: the first ones, the last ones, or any.
+    fn cells_of_a_cut_off_write(&mut self, shape: Shape, layout: &Layout) -> Vec<u8> {
+        let before = self.written_cells(shape, layout);
+        let number = self.number_in_range(shape.v);
+        let after = match field::write(shape, number, &before, &mut self.layouts) {
+            Ok(written) => written.cells,
+            Err(_) => return before,
         };
+        let order = self.chance.index(3);
+        let place = self.chance.index(layout.wits() + 1);
+        let mut cells = before;
+        for wit in 0..layout.wits() {
+            let is_turned = match order {
+                0 => wit < place,
+                1 => wit >= place,
+                _ => self.chance.one_in(2),
+            };
+            if is_turned {
+                cells[wit / 8] |= after[wit / 8] & 0x80 >> (wit % 8);
+            }
+        }
+        cells
+    }
+
+    /// As many zero groups as point to a generation from 2 on, and another count of
+    /// unerased ones than it has: one off, all the others erased, or any.
+    pub fn miscounted_cells(&mut self, layout: &Layout) -> Vec<u8> {
+        let generation = self.generation_to_meet(2, layout);
+        let due = layout.count(generation);
+        let fewest = match generation == layout.generations() {
+            true => 0,
+            false => layout.count(generation + 1),
+        };
+        let zeros = fewest + self.chance.index(due - fewest);
+        let unerased = match self.chance.index(4) {
+            0 => due - 1,
+            1 => due + 1,
+            2 => zeros,
+            _ => match zeros + self.chance.index(layout.groups() - zeros) {
+                any if any < due => any,
+                any => any + 1,
+            },
+        };
+        let groups = self.groups_counted(layout, zeros, unerased);
+        cells::bytes_of_groups(layout, &groups)
+    }
+
+    /// So many zero groups, and unerased ones with these, on places by chance.
+    fn groups_counted(&mut self, layout: &Layout, zeros: usize, unerased: usize) -> Vec<u64> {
+        let erased = layout.groups() - unerased;
         let groups = self.groups_with_erased(layout, erased);
-        let pattern = self.pattern(generation, layout);
-        cells::bytes_of_groups(layout, &field::with_pattern(&groups, &pattern))
+        let written = self.chance.places(unerased, unerased - zeros);
+        let values = written.iter().map(|is_written| match is_written {
+            true => self.chance.between(1, layout.erased() - 1),
+            false => 0,
+        });
+        let pattern: Vec<u64> = values.collect();
+        field::with_pattern(&groups, &pattern)
     }
 
     fn cells_with_wrong_bytes(&mut self, shape: Shape, layout: &Layout) -> Vec<u8> {

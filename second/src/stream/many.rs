@@ -12,12 +12,12 @@ use crate::protocol::{Call, ManyCall};
 
 impl Maker {
     pub fn many_call(&mut self) -> Call {
-        Call::Many(match self.chance.between(1, 20) {
+        Call::Many(match self.chance.between(1, 26) {
             1..=7 => self.good_fields(),
-            8..=14 => self.fields_with_faults(),
-            15..=16 => self.fields_of_a_wrong_length(),
-            17 => self.fields_of_another_layout(),
-            18 => self.cells_without_numbers(),
+            8..=20 => self.fields_with_faults(),
+            21..=22 => self.fields_of_a_wrong_length(),
+            23 => self.fields_of_another_layout(),
+            24 => self.cells_without_numbers(),
             _ => self.too_many_fields(),
         })
     }
@@ -88,7 +88,7 @@ impl Maker {
         for _ in 0..self.chance.between(1, 2) {
             let place = match self.chance.between(1, 5) {
                 1 => 0,
-                2 => count - 1,
+                2..=3 => count - 1,
                 _ => self.chance.index(count),
             };
             self.damage_field(place, &mut call);
@@ -104,30 +104,30 @@ impl Maker {
             Ok(layout) => layout,
             Err(_) => return,
         };
-        let fault = self.chance.between(1, 9);
+        let fault = self.chance.between(1, 8);
         if fault <= 3 {
             call.numbers[place] = self.chance.pick(&[shape.v, shape.v + 1, u64::MAX]);
         }
-        if fault >= 3 {
+        if fault >= 2 {
             let refused = self.cells_to_refuse(shape, &layout);
             let start = place * refused.len();
             call.cells[start..start + refused.len()].copy_from_slice(&refused);
         }
     }
 
-    /// As long as the field, and spent, with a left-over bit, or without a reading.
+    /// As long as the field, and spent, with a left-over bit, or unreadable.
     fn cells_to_refuse(&mut self, shape: Shape, layout: &Layout) -> Vec<u8> {
         let mut states = self.cells_from_blank_to_spent(shape, layout);
         let has_left_over_bits = layout.wits() % 8 != 0;
-        match self.chance.between(1, 6) {
+        match self.chance.between(1, 10) {
             1..=2 => states.swap_remove(layout.generations()),
-            3..=4 if has_left_over_bits => {
+            3..=5 if has_left_over_bits => {
                 let mut cells = states.swap_remove(self.chance.index(states.len()));
                 self.set_a_left_over_bit(layout, &mut cells);
                 cells
             }
-            5 => self.edge_cells(layout),
-            _ => self.cells_with_wrong_erasures(layout),
+            6..=7 => self.cells_beyond(layout),
+            _ => self.miscounted_cells(layout),
         }
     }
 

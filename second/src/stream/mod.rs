@@ -92,7 +92,7 @@ impl Maker {
     }
 
     fn make_calls(&mut self) {
-        let call = match self.chance.between(1, 228) {
+        let call = match self.chance.between(1, 236) {
             1..=16 => self.layout_call(),
             17..=42 => self.read_call(),
             43..=64 => self.write_call(),
@@ -103,7 +103,7 @@ impl Maker {
             98..=127 => Call::Walk { dump: self.dump() },
             128..=132 => self.hex_export_call(),
             133..=156 => self.hex_import_call(),
-            157..=180 => self.many_call(),
+            157..=188 => self.many_call(),
             _ => self.new_dump_call(),
         };
         self.waiting.push_back(call);

@@ -6,7 +6,7 @@ use super::Maker;
 use crate::dump::{self, LARGEST_SERIAL};
 use crate::layout::{OldShape, Shape};
 use crate::newdump::{self, Listed, MOST_LAYOUTS};
-use crate::refusal::Refused;
+use crate::refusal::Refusal;
 
 /// Cell bytes of the record that brings a dump to its length, so many or more: their
 /// count is a number of three bytes.
@@ -281,7 +281,7 @@ fn list_of(shapes: &[Shape]) -> Vec<u8> {
 fn filled_up(
     length: usize,
     whole: impl Fn(usize) -> Vec<u8>,
-    moved: impl Fn(&[u8]) -> Result<Vec<u8>, Refused>,
+    moved: impl Fn(&[u8]) -> Result<Vec<u8>, Refusal>,
 ) -> Vec<u8> {
     let short = moved(&whole(FILLING)).expect("it is no longer than a dump");
     whole(FILLING + length - short.len())

@@ -20,6 +20,17 @@ pub fn written(generation: usize, turned: u64, cells: &[u8]) -> Result<Written, 
     })
 }
 
+pub fn miscounted<T>(generation: usize, unerased: usize) -> Result<T, Refusal> {
+    Err(Refusal::Miscounted {
+        generation,
+        unerased,
+    })
+}
+
+pub fn beyond<T>(generation: usize) -> Result<T, Refusal> {
+    Err(Refusal::Beyond { generation })
+}
+
 pub fn reading(generation: usize, number: u64, left: usize) -> Result<Reading, Refusal> {
     Ok(Reading {
         generation,
