@@ -84,14 +84,31 @@ static void answer_layout(void)
     putchar('\n');
 }
 
+/* A refusal with what it carries. */
+static void put_refusal(const char *word, uint64_t refusal, uint64_t generation, uint64_t unerased)
+{
+    uint64_t numbers[] = {refusal, generation, unerased};
+    put_numbers(word, numbers, refusal == GORVLIME_MISCOUNTED ? 3 : refusal == GORVLIME_BEYOND ? 2 : 1);
+}
+
+/* Ends a line with the numbers of a reading, which a row and struct gorvlime_reading have in this order. */
+static void put_reply(const uint64_t *reply)
+{
+    if (reply[0] == 0)
+        put_numbers("", reply, 4);
+    else
+        put_refusal("", reply[0], reply[1], reply[4]);
+    putchar('\n');
+}
+
 static void answer_read(struct lent *lent)
 {
     struct gorvlime_shape shape = get_shape();
     get_bytes(lent);
     struct gorvlime_reading r = CALL(read)(shape, lent->bytes, lent->count);
-    uint64_t numbers[] = {r.refusal, r.generation, r.number, r.left};
-    put_numbers("read", numbers, r.refusal == 0 ? 4 : 1);
-    putchar('\n');
+    uint64_t reply[] = {r.refusal, r.generation, r.number, r.left, r.unerased};
+    fputs("read", stdout);
+    put_reply(reply);
 }
 
 static void answer_write(struct lent *lent)
@@ -101,7 +118,10 @@ static void answer_write(struct lent *lent)
     get_bytes(lent);
     struct gorvlime_writing w = CALL(write)(shape, lent->bytes, lent->count, number);
     uint64_t numbers[] = {w.refusal, w.generation, w.turned};
-    put_numbers("write", numbers, w.refusal == 0 ? 3 : 1);
+    if (w.refusal == 0)
+        put_numbers("write", numbers, 3);
+    else
+        put_refusal("write", w.refusal, w.generation, w.unerased);
     put_hex(lent->bytes, lent->count);
     putchar('\n');
 }
@@ -111,6 +131,10 @@ static int is_whole(const struct gorvlime_many *w, size_t count)
 {
     size_t written = w->stopped ? w->field : w->refusal == 0 ? count : 0;
     uint64_t others = w->stopped ? w->stopped - 1 : w->field;
+    if (w->refusal != GORVLIME_MISCOUNTED)
+        others |= w->refused_unerased;
+    if (w->refusal != GORVLIME_MISCOUNTED && w->refusal != GORVLIME_BEYOND)
+        others |= w->refused_generation;
     for (size_t i = w->written; i < GORVLIME_MANY; i++)
         others |= w->generation[i] | w->turned[i];
     return w->written == written && written <= GORVLIME_MANY && others == 0;
@@ -118,7 +142,7 @@ static int is_whole(const struct gorvlime_many *w, size_t count)
 
 static void put_many(const struct gorvlime_many *w)
 {
-    put_numbers("many", &w->refusal, 1);
+    put_refusal("many", w->refusal, w->refused_generation, w->refused_unerased);
     if (w->stopped)
         put_numbers(" field", &w->field, 1);
     else if (w->refusal == 0)
@@ -190,10 +214,10 @@ static int put_record(const struct lent *dump, const uint64_t *row, size_t *at)
 {
     struct gorvlime_found s = CALL(step)(dump->bytes, dump->count, *at);
     uint64_t same[GORVLIME_ROW] = {
-        s.serial, s.m, s.t, s.v, s.start, s.length, s.refused, s.generation, s.number, s.left,
+        s.serial, s.m, s.t, s.v, s.start, s.length, s.refused, s.generation, s.number, s.left, s.unerased,
     };
-    put_numbers("record", row, row[6] == 0 ? 10 : 7);
-    putchar('\n');
+    put_numbers("record", row, 6);
+    put_reply(row + 6);
     *at = s.next;
     return s.refusal == 0 && s.records == 1 && s.offset == 0 && memcmp(row, same, sizeof same) == 0;
 }
@@ -239,10 +263,10 @@ static int put_new_record(const struct lent *dump, const uint64_t *row, size_t *
     struct gorvlime_found_new s = CALL(step_new)(dump->bytes, dump->count, *at);
     uint64_t same[GORVLIME_ROW_NEW] = {
         s.serial, s.layout, s.shape.form, s.shape.m, s.shape.t, s.shape.v,
-        s.start, s.length, s.refused, s.generation, s.number, s.left,
+        s.start, s.length, s.refused, s.generation, s.number, s.left, s.unerased,
     };
-    put_numbers("record", row, row[8] == 0 ? 12 : 9);
-    putchar('\n');
+    put_numbers("record", row, 8);
+    put_reply(row + 8);
     *at = s.next;
     return s.refusal == 0 && s.records == 1 && s.offset == 0 && memcmp(row, same, sizeof same) == 0;
 }

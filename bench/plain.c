@@ -265,16 +265,15 @@ static int is_blank(const struct field *f, const struct words *w)
 /* Of cells that are not blank, or of form 0. */
 static struct gorvlime_reading read_words(const struct field *f, struct words *w)
 {
-    struct gorvlime_reading refused = {.refusal = GORVLIME_NO_READING};
     unsigned i = generation_of(f, w->zeros);
     struct deal d = deal_of(f, i);
     if (i == 1)
         make_all_places(w);
     else if (w->unerased != d.places)
-        return refused;
+        return (struct gorvlime_reading){.refusal = GORVLIME_MISCOUNTED, .generation = i, .unerased = w->unerased};
     uint64_t number = i == f->t ? digits_number(w) : pattern_number(w, d);
     if (number >= f->v)
-        return refused;
+        return (struct gorvlime_reading){.refusal = GORVLIME_BEYOND, .generation = i};
     return (struct gorvlime_reading){.generation = i, .number = number, .left = is_blank(f, w) ? f->t : f->t - i};
 }
 
@@ -325,7 +324,7 @@ static struct gorvlime_writing next_generation(const struct field *f, struct wor
         return (struct gorvlime_writing){.generation = 1};
     struct gorvlime_reading r = read_words(f, w);
     if (r.refusal != GORVLIME_ACCEPTED)
-        return (struct gorvlime_writing){.refusal = r.refusal};
+        return (struct gorvlime_writing){.refusal = r.refusal, .generation = r.generation, .unerased = r.unerased};
     if (r.generation == f->t)
         return (struct gorvlime_writing){.refusal = GORVLIME_SPENT};
     return (struct gorvlime_writing){.generation = r.generation + 1};

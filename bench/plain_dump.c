@@ -51,6 +51,7 @@ struct gorvlime_found plain_step(const uint8_t *dump, size_t dump_count, size_t 
         .records = 1, .serial = r.serial, .m = r.shape.m, .t = r.shape.t, .v = r.shape.v,
         .start = r.start, .length = r.length, .next = r.start + r.length,
         .refused = reading.refusal, .generation = reading.generation, .number = reading.number, .left = reading.left,
+        .unerased = reading.unerased,
     };
 }
 
@@ -66,6 +67,7 @@ static void put_row(uint64_t *row, const struct record *r, const struct gorvlime
     row[7] = reading->generation;
     row[8] = reading->number;
     row[9] = reading->left;
+    row[10] = reading->unerased;
 }
 
 struct gorvlime_walked plain_walk(const uint8_t *dump, size_t dump_count, size_t at, uint64_t *rows, size_t rows_count)

@@ -27,10 +27,12 @@ struct gorvlime_many plain_write_many(struct gorvlime_shape shape, uint8_t *cell
             answer.refusal = w.refusal;
             answer.stopped = 1;
             answer.field = i;
+            answer.refused_generation = w.generation;
+            answer.refused_unerased = w.unerased;
             return answer;
         }
-        answer.generation[i] = w.generation;
-        answer.turned[i] = w.turned;
+        answer.generation[i] = (uint16_t)w.generation;
+        answer.turned[i] = (uint16_t)w.turned;
         answer.written++;
     }
     return answer;

@@ -122,6 +122,7 @@ struct gorvlime_found_new plain_step_new(const uint8_t *dump, size_t dump_count,
         .records = 1, .serial = r.serial, .layout = r.layout, .shape = l.shapes[r.layout],
         .start = r.start, .length = r.length, .next = r.start + r.length,
         .refused = reading.refusal, .generation = reading.generation, .number = reading.number, .left = reading.left,
+        .unerased = reading.unerased,
     };
 }
 
@@ -140,6 +141,7 @@ static void put_row(uint64_t *row, const struct new_record *r, const struct gorv
     row[9] = reading->generation;
     row[10] = reading->number;
     row[11] = reading->left;
+    row[12] = reading->unerased;
 }
 
 struct gorvlime_walked plain_walk_new(const uint8_t *dump, size_t dump_count, size_t at, uint64_t *rows,

@@ -1,6 +1,6 @@
 /*
- * Counters in write-once cells, as board firmware keeps them: size the cells, write one or many, read back, export, and make
- * a new dump.
+ * Counters in write-once cells, as board firmware keeps them: size the cells, write one or many, read back, export, make a
+ * new dump, and tell why a field is unreadable.
  *
  *     rt staticlib gorvlime
  *     tools/cc examples/board.c target/staticlib/libgorvlime.a -o target/board
@@ -10,6 +10,7 @@
 
 #include <inttypes.h>
 #include <stdio.h>
+#include <string.h>
 
 struct drive {
     const char *name;
@@ -54,15 +55,35 @@ static void write_counter(struct drive *d, uint64_t number)
            written.turned);
 }
 
+/* 15 and 16 come with what the fitter needs; README.md tells what it points to. */
 static void read_counter(const struct drive *d)
 {
     struct gorvlime_reading reading = gorvlime_read(d->shape, d->cells, sizeof d->cells);
-    if (reading.refusal == GORVLIME_BLANK)
-        printf("%s: no number yet\n", d->name);
-    else if (reading.refusal != GORVLIME_ACCEPTED)
-        printf("%s: no reading, refusal %" PRIu64 "\n", d->name, reading.refusal);
-    else
+    switch (reading.refusal) {
+    case GORVLIME_ACCEPTED:
         printf("%s: the counter is %" PRIu64 ", %" PRIu64 " writes left\n", d->name, reading.number, reading.left);
+        break;
+    case GORVLIME_BLANK:
+        printf("%s: no number yet\n", d->name);
+        break;
+    case GORVLIME_MISCOUNTED:
+        printf("%s: unreadable, 15 at generation %" PRIu64 " with %" PRIu64 " groups unerased\n", d->name,
+               reading.generation, reading.unerased);
+        break;
+    case GORVLIME_BEYOND:
+        printf("%s: unreadable, 16 at generation %" PRIu64 "\n", d->name, reading.generation);
+        break;
+    default:
+        printf("%s: no reading, refusal %" PRIu64 "\n", d->name, reading.refusal);
+    }
+}
+
+/* What a board leaves that turns cells from the front on and loses its supply halfway. */
+static void cut_write_off(struct drive *d, uint64_t number)
+{
+    struct drive written = *d;
+    gorvlime_write(written.shape, written.cells, sizeof written.cells, number);
+    memcpy(d->cells, written.cells, sizeof d->cells / 2);
 }
 
 /* Three new drives whose fields lie end to end. */
@@ -73,7 +94,7 @@ static void write_quarter(const uint64_t *numbers, size_t count)
 {
     struct gorvlime_many many = gorvlime_write_many(new_drive.shape, rack, sizeof rack, numbers, count);
     for (uint64_t i = 0; i < many.written; i++)
-        printf("rack: write %" PRIu64 " of drive %" PRIu64 " is %" PRIu64 ", %" PRIu64 " wits turned\n",
+        printf("rack: write %" PRIu16 " of drive %" PRIu64 " is %" PRIu64 ", %" PRIu16 " wits turned\n",
                many.generation[i], i, numbers[i], many.turned[i]);
     if (many.stopped)
         printf("rack: drive %" PRIu64 " is refused with %" PRIu64 "\n", many.field, many.refusal);
@@ -122,7 +143,10 @@ static void make_dump(void)
     printf("new dump: %zu bytes\n", dump.count);
 }
 
-/* As a collector lists it. A row is serial, layout, form, m, t, v, start, length, refused, generation, number, left. */
+/*
+ * As a collector lists it. A row is serial, layout, form, m, t, v, start, length, refused, generation, number, left,
+ * unerased.
+ */
 static void list_dump(void)
 {
     uint64_t rows[2 * GORVLIME_ROW_NEW];
@@ -157,5 +181,7 @@ int main(void)
     export_counter(&old_drive, 300);
     make_dump();
     list_dump();
+    cut_write_off(&old_drive, 1002);
+    read_counter(&old_drive);
     return 0;
 }

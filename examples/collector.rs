@@ -14,7 +14,7 @@ use std::io::{self, Read};
 
 mod gorvlime {
     /// The numbers of a row.
-    pub const ROW: usize = 10;
+    pub const ROW: usize = 11;
 
     #[repr(C)]
     pub struct Walked {
@@ -36,7 +36,7 @@ mod gorvlime {
     }
 }
 
-/// A row is serial, m, t, v, start, length, refused, generation, number, left.
+/// A row is serial, m, t, v, start, length, refused, generation, number, left, unerased.
 fn print_field(row: &[u64]) {
     match (row[6], &row[7..10]) {
         (0, [generation, number, left]) => println!("{} {} {} {}", row[0], generation, number, left),

@@ -21,9 +21,9 @@
  *
  * For every call:
  * - `refusal` is 0 when the call was accepted. When it is not, all other numbers of the answer are 0 and nothing was stored
- *   in lent memory, with two exceptions. Refusal 7 tells the offset of the malformed record, or 0 for the layout list of a
- *   new dump, and a walk has filled and counts the rows of the records before it. A gorvlime_write_many that stops at a
- *   field tells which, and has written the fields before it.
+ *   in lent memory, with three exceptions. Refusal 7 tells the offset of the malformed record, or 0 for the layout list of a
+ *   new dump, and a walk has filled and counts the rows of the records before it. Refusals 15 and 16 tell a generation, 15 a
+ *   count of groups too. A gorvlime_write_many that stops at a field tells which, and has written the fields before it.
  * - Lend no null pointer, not even with a count of 0, and no output, nor cells to be written, that overlap what else is
  *   lent. Not a byte more is read or stored than is lent.
  * - There is no state, no heap and no lock: calls may run at once on different memory.
@@ -46,7 +46,7 @@ extern "C" {
  * Why a call was refused. The tests are made in the order of this list, and the first that holds is the answer. A HEX
  * text is tested line by line: 23, 20, 21, 22, 24 at one line, the same at the next, and 9 when all lines have passed.
  * A move tests 8 a second time, of what it would store: right before 9. Write many tests 3 once for all bytes together,
- * then 3, 6, 4, 5 at one field, and the same at the next when that one is written.
+ * then 3, 6, 15, 16, 5 at one field, and the same at the next when that one is written.
  */
 enum gorvlime_refusal {
     GORVLIME_ACCEPTED = 0,      /* from                  when                                               */
@@ -59,7 +59,9 @@ enum gorvlime_refusal {
                                 /* of a record                                                              */
     GORVLIME_BLANK = 11,        /* read                  the field is of form 1 and nothing is written yet  */
     GORVLIME_NUMBER = 6,        /* writes                the number is v or more                            */
-    GORVLIME_NO_READING = 4,    /* read, writes          the cells have no reading: no writes leave them so */
+    GORVLIME_MISCOUNTED = 15,   /* read, writes          another number of unerased groups than the         */
+                                /*                       generation has                                     */
+    GORVLIME_BEYOND = 16,       /* read, writes          the number is not below the range                  */
     GORVLIME_SPENT = 5,         /* writes                all t generations are written                      */
     GORVLIME_TOO_LONG = 8,      /* all with a dump       the dump has more than 65,536 bytes                */
                                 /* HEX export            more than 65,536 bytes                             */
@@ -107,9 +109,21 @@ struct gorvlime_counts gorvlime_layout(struct gorvlime_shape shape, uint64_t g);
  * 7 - (w mod 8) of byte w / 8, bit 7 being the high one; bits behind the last wit are 0. Answers the generation of the last
  * write (1 to t), the number (0 to v - 1), and how many writes are left. Blank cells of form 0 read as generation 1,
  * number 0, with t writes left; those of form 1 are refused with 11, since no number was written.
- * Refusals: 1, 2, 3, 11, 4.
+ *
+ * Cells that no whole write leaves have no number, and none may be guessed from them. They are refused with 15 or 16 and
+ * tell the generation i that the count of their zero groups points to. With 15 they also tell `unerased`, how many groups
+ * are not all ones, zero groups among them, where generation i has h_i; in generation 1 all ones are data, and it is never
+ * refused with 15. With 16 the count is right. Either points to a write that was cut off, to another layout's cells or to
+ * damage: README.md tells a fitter how to go on from there.
+ *
+ *     refusal 0     generation, number, left
+ *     refusal 15    generation, unerased
+ *     refusal 16    generation
+ *
+ * What is not named for a case is 0 in it, and with another refusal all is.
+ * Refusals: 1, 2, 3, 11, 15, 16.
  */
-struct gorvlime_reading { uint64_t refusal, generation, number, left; };
+struct gorvlime_reading { uint64_t refusal, generation, number, left, unerased; };
 
 struct gorvlime_reading gorvlime_read(struct gorvlime_shape shape, const uint8_t *cells, size_t cells_count);
 
@@ -119,9 +133,10 @@ struct gorvlime_reading gorvlime_read(struct gorvlime_shape shape, const uint8_t
  * Takes the field's shape, its cells and the number, 0 to v - 1, and turns wits in the cells from 0 to 1, never back.
  * Answers the generation just written and how many wits were turned. In form 0, writing 0 on blank cells turns none and
  * leaves them blank. Every other write, in form 1 every write, turns some wits and uses one of the t up.
- * Refusals: 1, 2, 3, 6, 4, 5. Blank cells of form 1 are written as any others and never refused with 11.
+ * Refused with 15 or 16 it tells generation and unerased of the cells, as gorvlime_read does, and turned is 0.
+ * Refusals: 1, 2, 3, 6, 15, 16, 5. Blank cells of form 1 are written as any others and never refused with 11.
  */
-struct gorvlime_writing { uint64_t refusal, generation, turned; };
+struct gorvlime_writing { uint64_t refusal, generation, turned, unerased; };
 
 struct gorvlime_writing gorvlime_write(struct gorvlime_shape shape, uint8_t *cells, size_t cells_count, uint64_t number);
 
@@ -134,22 +149,23 @@ struct gorvlime_writing gorvlime_write(struct gorvlime_shape shape, uint8_t *cel
  *
  *     all written    refusal 0; written, how many fields there are; generation[i] and turned[i] as gorvlime_write answers
  *                    them for field i
- *     stopped        refusal 3 (a 1 behind the field's last wit), 6, 4 or 5; stopped 1; field, the refused one, from 0;
- *                    written, the fields before it, which stay written: as many as `field` says; their generation and turned
+ *     stopped        refusal 3 (a 1 behind the field's last wit), 6, 15, 16 or 5; stopped 1; field, the refused one, from 0;
+ *                    written, the fields before it, which stay written: as many as `field` says; their generation and turned;
+ *                    with 15 or 16 what the refused field tells: refused_generation, and with 15 refused_unerased
  *     refused        refusal 14, 1, 2 or 3 (the count of bytes is not the fields' together), before any field was written
  *
  * What is not named for a case is 0 in it, and so are generation and turned behind the fields written. A field that is
  * refused and all behind it are as they were. `stopped` tells the two kinds of 3 apart. To go on behind a refused field,
  * hand in the fields behind it alone: those before it are written.
- * The answer has 1,056 bytes, which the caller has room for beside what the call itself takes.
- * Refusals: 14, 1, 2, 3; then at each field 3, 6, 4, 5.
+ * The answer has 304 bytes, which the caller has room for beside what the call itself takes.
+ * Refusals: 14, 1, 2, 3; then at each field 3, 6, 15, 16, 5.
  */
 #define GORVLIME_MANY 64
 
 struct gorvlime_many {
-    uint64_t refusal, stopped, field, written;
-    uint64_t generation[GORVLIME_MANY];
-    uint64_t turned[GORVLIME_MANY];
+    uint64_t refusal, stopped, field, written, refused_generation, refused_unerased;
+    uint16_t generation[GORVLIME_MANY];
+    uint16_t turned[GORVLIME_MANY];
 };
 
 struct gorvlime_many gorvlime_write_many(struct gorvlime_shape shape, uint8_t *cells, size_t cells_count,
@@ -178,8 +194,8 @@ struct gorvlime_stored gorvlime_export(uint64_t serial, uint64_t m, uint64_t t, 
  * or past the dump's end is the end.
  *
  *     a record    refusal 0, records 1; its serial, m, t, v; its cells are the dump's bytes start to start + length - 1;
- *                 next, where the next step starts; then what gorvlime_read says of the cells in form 0: `refused` is 0
- *                 and generation, number, left follow, or it is the record's own refusal 1 to 4 and they are 0
+ *                 next, where the next step starts; then what gorvlime_read says of the cells in form 0: `refused`, which
+ *                 is 0 or the record's own refusal 1, 2, 3, 15 or 16, and generation, number, left and unerased
  *     the end     refusal 0, records 0
  *     refused     refusal 8, or 7 with the offset of the record's first byte; records 0
  *
@@ -187,7 +203,7 @@ struct gorvlime_stored gorvlime_export(uint64_t serial, uint64_t m, uint64_t t, 
  * A record's own refusal does not end a walk, refusal 7 does: nothing behind a malformed record can be trusted.
  */
 struct gorvlime_found {
-    uint64_t refusal, offset, records, serial, m, t, v, start, length, next, refused, generation, number, left;
+    uint64_t refusal, offset, records, serial, m, t, v, start, length, next, refused, generation, number, left, unerased;
 };
 
 struct gorvlime_found gorvlime_step(const uint8_t *dump, size_t dump_count, size_t at);
@@ -196,8 +212,8 @@ struct gorvlime_found gorvlime_step(const uint8_t *dump, size_t dump_count, size
  * Many records of a dump: the same as steps from `at` on, and quicker where records repeat m, t and v.
  *
  * Takes the dump, the offset to start at, and room for rows_count numbers; a record fills a row of GORVLIME_ROW of them, in
- * the order serial, m, t, v, start, length, refused, generation, number, left. Goes on while a whole row is free. Numbers
- * behind the filled rows stay as they are.
+ * the order serial, m, t, v, start, length, refused, generation, number, left, unerased. Goes on while a whole row is free.
+ * Numbers behind the filled rows stay as they are.
  *
  *     rows      rows that were filled, also where the walk was refused with 7
  *     next      the offset of the first record that no row was filled for: where to go on, or where the walk ended
@@ -212,7 +228,7 @@ struct gorvlime_found gorvlime_step(const uint8_t *dump, size_t dump_count, size
  *         at = w.next;
  *     } while (w.refusal == 0 && w.ended == 0);      rows has at least GORVLIME_ROW numbers
  */
-#define GORVLIME_ROW 10
+#define GORVLIME_ROW 11
 
 struct gorvlime_walked { uint64_t refusal, offset, rows, next, ended; };
 
@@ -271,8 +287,8 @@ struct gorvlime_opened gorvlime_open_new(const uint8_t *dump, size_t dump_count)
  *
  *     a record    refusal 0, records 1; its serial, the number of its layout and the listed shape; its cells are the
  *                 dump's bytes start to start + length - 1; next, where the next step starts; then what gorvlime_read says
- *                 of the cells: `refused` is 0 and generation, number, left follow, or it is the record's own refusal 1 to
- *                 4 or 11 and they are 0
+ *                 of the cells: `refused`, which is 0 or the record's own refusal 1, 2, 3, 11, 15 or 16, and generation,
+ *                 number, left and unerased
  *     the end     refusal 0, records 0
  *     refused     refusal 8; or 7 with offset 0 for the list, or with the offset of the record's first byte; records 0
  *
@@ -282,7 +298,7 @@ struct gorvlime_opened gorvlime_open_new(const uint8_t *dump, size_t dump_count)
 struct gorvlime_found_new {
     uint64_t refusal, offset, records, serial, layout;
     struct gorvlime_shape shape;
-    uint64_t start, length, next, refused, generation, number, left;
+    uint64_t start, length, next, refused, generation, number, left, unerased;
 };
 
 struct gorvlime_found_new gorvlime_step_new(const uint8_t *dump, size_t dump_count, size_t at);
@@ -291,10 +307,10 @@ struct gorvlime_found_new gorvlime_step_new(const uint8_t *dump, size_t dump_cou
  * Many records of a new dump: the same as steps from `at` on, and quicker where records repeat a layout.
  *
  * All is as in gorvlime_walk, but that a row has GORVLIME_ROW_NEW numbers, in the order serial, layout, form, m, t, v, start,
- * length, refused, generation, number, left; that `at` is the `first` of gorvlime_open_new to begin with; and that a
- * broken list is refused with 7 whatever the room, with all else 0. It passes over the list once.
+ * length, refused, generation, number, left, unerased; that `at` is the `first` of gorvlime_open_new to begin with; and that
+ * a broken list is refused with 7 whatever the room, with all else 0. It passes over the list once.
  */
-#define GORVLIME_ROW_NEW 12
+#define GORVLIME_ROW_NEW 13
 
 struct gorvlime_walked gorvlime_walk_new(const uint8_t *dump, size_t dump_count, size_t at, uint64_t *rows,
                                          size_t rows_count);

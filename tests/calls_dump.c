@@ -85,40 +85,44 @@ static void same_step(struct gorvlime_found got, struct gorvlime_found expected)
     same("generation", got.generation, expected.generation);
     same("number", got.number, expected.number);
     same("left", got.left, expected.left);
+    same("unerased", got.unerased, expected.unerased);
 }
 
 #define END {0}
 #define STOP(where) {.refusal = 7, .offset = (where)}
 #define DOCUMENT_DUMP "07 02 03 04 01 4F  AC 02 02 02 14 02 00 40  08 02 03 04 01 00  09 02 02 14 02 02 80"
+#define UNREADABLE_DUMP "01 02 03 04 01 0F  02 02 03 04 01 43"
 
 static const struct {
     const char *dump;
     size_t at;
     struct gorvlime_found found;
 } steps[] = {
-    {DOCUMENT_DUMP, 0, {0, 0, 1, 7, 2, 3, 4, 5, 1, 6, 0, 3, 2, 0}},
-    {DOCUMENT_DUMP, 6, {0, 0, 1, 300, 2, 2, 20, 12, 2, 14, 0, 1, 1, 1}},
-    {DOCUMENT_DUMP, 14, {0, 0, 1, 8, 2, 3, 4, 19, 1, 20, 0, 1, 0, 3}},
-    {DOCUMENT_DUMP, 20, {0, 0, 1, 9, 2, 2, 20, 25, 2, 27, 4, 0, 0, 0}},
+    {DOCUMENT_DUMP, 0, {0, 0, 1, 7, 2, 3, 4, 5, 1, 6, 0, 3, 2, 0, 0}},
+    {DOCUMENT_DUMP, 6, {0, 0, 1, 300, 2, 2, 20, 12, 2, 14, 0, 1, 1, 1, 0}},
+    {DOCUMENT_DUMP, 14, {0, 0, 1, 8, 2, 3, 4, 19, 1, 20, 0, 1, 0, 3, 0}},
+    {DOCUMENT_DUMP, 20, {0, 0, 1, 9, 2, 2, 20, 25, 2, 27, 16, 1, 0, 0, 0}},
     {DOCUMENT_DUMP, 27, END},
     {DOCUMENT_DUMP, 28, END},
     {DOCUMENT_DUMP, SIZE_MAX, END},
     {"", 0, END},
     {"", 1, END},
     /* A record's own refusals. */
-    {"00 00 00 00 00", 0, {0, 0, 1, 0, 0, 0, 0, 5, 0, 5, 1, 0, 0, 0}},
-    {"01 05 03 04 01 00", 0, {0, 0, 1, 1, 5, 3, 4, 5, 1, 6, 1, 0, 0, 0}},
-    {"01 02 11 04 01 00", 0, {0, 0, 1, 1, 2, 17, 4, 5, 1, 6, 1, 0, 0, 0}},
-    {"01 02 03 04 00", 0, {0, 0, 1, 1, 2, 3, 4, 5, 0, 5, 3, 0, 0, 0}},
-    {"01 02 03 04 02 00 00", 0, {0, 0, 1, 1, 2, 3, 4, 5, 2, 7, 3, 0, 0, 0}},
-    {"01 02 02 14 02 00 41", 0, {0, 0, 1, 1, 2, 2, 20, 5, 2, 7, 3, 0, 0, 0}},
-    {"01 02 03 04 01 43", 0, {0, 0, 1, 1, 2, 3, 4, 5, 1, 6, 4, 0, 0, 0}},
-    {"01 02 02 81 80 80 80 80 80 80 80 01 00", 0, {0, 0, 1, 1, 2, 2, RANGE + 1, 13, 0, 13, 1, 0, 0, 0}},
+    {"00 00 00 00 00", 0, {0, 0, 1, 0, 0, 0, 0, 5, 0, 5, 1, 0, 0, 0, 0}},
+    {"01 05 03 04 01 00", 0, {0, 0, 1, 1, 5, 3, 4, 5, 1, 6, 1, 0, 0, 0, 0}},
+    {"01 02 11 04 01 00", 0, {0, 0, 1, 1, 2, 17, 4, 5, 1, 6, 1, 0, 0, 0, 0}},
+    {"01 02 03 04 00", 0, {0, 0, 1, 1, 2, 3, 4, 5, 0, 5, 3, 0, 0, 0, 0}},
+    {"01 02 03 04 02 00 00", 0, {0, 0, 1, 1, 2, 3, 4, 5, 2, 7, 3, 0, 0, 0, 0}},
+    {"01 02 02 14 02 00 41", 0, {0, 0, 1, 1, 2, 2, 20, 5, 2, 7, 3, 0, 0, 0, 0}},
+    {UNREADABLE_DUMP, 0, {0, 0, 1, 1, 2, 3, 4, 5, 1, 6, 15, 2, 0, 0, 2}},
+    {UNREADABLE_DUMP, 6, {0, 0, 1, 2, 2, 3, 4, 11, 1, 12, 16, 2, 0, 0, 0}},
+    {"01 02 03 04 01 FF", 0, {0, 0, 1, 1, 2, 3, 4, 5, 1, 6, 15, 3, 0, 0, 0}},
+    {"01 02 02 81 80 80 80 80 80 80 80 01 00", 0, {0, 0, 1, 1, 2, 2, RANGE + 1, 13, 0, 13, 1, 0, 0, 0, 0}},
     /* Nine bytes are the longest number. */
-    {"FF FF FF FF FF FF FF FF 7F 02 03 04 01 4F", 0, {0, 0, 1, MOST_SERIAL, 2, 3, 4, 13, 1, 14, 0, 3, 2, 0}},
+    {"FF FF FF FF FF FF FF FF 7F 02 03 04 01 4F", 0, {0, 0, 1, MOST_SERIAL, 2, 3, 4, 13, 1, 14, 0, 3, 2, 0, 0}},
     {"FF FF FF FF FF FF FF FF FF 01 02 03 04 01 4F", 0, STOP(0)},
     {"FF FF FF FF FF FF FF FF FF 7F 02 03 04 01 4F", 0, STOP(0)},
-    {"80 80 80 80 80 80 80 80 01 02 03 04 01 4F", 0, {0, 0, 1, RANGE, 2, 3, 4, 13, 1, 14, 0, 3, 2, 0}},
+    {"80 80 80 80 80 80 80 80 01 02 03 04 01 4F", 0, {0, 0, 1, RANGE, 2, 3, 4, 13, 1, 14, 0, 3, 2, 0, 0}},
     /* Not in shortest form. */
     {"80 00", 0, STOP(0)},
     {"80 00 02 03 04 01 4F", 0, STOP(0)},
@@ -158,10 +162,10 @@ void same_walk(struct gorvlime_walked got, struct gorvlime_walked expected)
 }
 
 static const uint64_t document_rows[4][GORVLIME_ROW] = {
-    {7, 2, 3, 4, 5, 1, 0, 3, 2, 0},
-    {300, 2, 2, 20, 12, 2, 0, 1, 1, 1},
-    {8, 2, 3, 4, 19, 1, 0, 1, 0, 3},
-    {9, 2, 2, 20, 25, 2, 4, 0, 0, 0},
+    {7, 2, 3, 4, 5, 1, 0, 3, 2, 0, 0},
+    {300, 2, 2, 20, 12, 2, 0, 1, 1, 1, 0},
+    {8, 2, 3, 4, 19, 1, 0, 1, 0, 3, 0},
+    {9, 2, 2, 20, 25, 2, 16, 1, 0, 0, 0},
 };
 
 /* A walk of part of the document's dump, its rows beginning with the document's row `first`. */
@@ -182,28 +186,43 @@ static void check_walk(size_t dump_count, size_t at, size_t rows_count, unsigned
 
 static void check_walks(void)
 {
-    check_walk(27, 0, 60, 0, (struct gorvlime_walked){0, 0, 4, 27, 1});
-    check_walk(27, 0, 50, 0, (struct gorvlime_walked){0, 0, 4, 27, 1});
+    check_walk(27, 0, 66, 0, (struct gorvlime_walked){0, 0, 4, 27, 1});
+    check_walk(27, 0, 55, 0, (struct gorvlime_walked){0, 0, 4, 27, 1});
     /* The rows are used up: a step for the end is not taken. */
-    check_walk(27, 0, 49, 0, (struct gorvlime_walked){0, 0, 4, 27, 0});
-    check_walk(27, 0, 40, 0, (struct gorvlime_walked){0, 0, 4, 27, 0});
-    check_walk(27, 0, 39, 0, (struct gorvlime_walked){0, 0, 3, 20, 0});
-    check_walk(27, 0, 10, 0, (struct gorvlime_walked){0, 0, 1, 6, 0});
-    check_walk(27, 6, 19, 1, (struct gorvlime_walked){0, 0, 1, 14, 0});
-    check_walk(27, 14, 60, 2, (struct gorvlime_walked){0, 0, 2, 27, 1});
-    check_walk(27, 27, 10, 0, (struct gorvlime_walked){0, 0, 0, 27, 1});
-    check_walk(27, 28, 10, 0, (struct gorvlime_walked){0, 0, 0, 28, 1});
-    check_walk(27, 6, 9, 0, (struct gorvlime_walked){0, 0, 0, 6, 0});
+    check_walk(27, 0, 54, 0, (struct gorvlime_walked){0, 0, 4, 27, 0});
+    check_walk(27, 0, 44, 0, (struct gorvlime_walked){0, 0, 4, 27, 0});
+    check_walk(27, 0, 43, 0, (struct gorvlime_walked){0, 0, 3, 20, 0});
+    check_walk(27, 0, 11, 0, (struct gorvlime_walked){0, 0, 1, 6, 0});
+    check_walk(27, 6, 21, 1, (struct gorvlime_walked){0, 0, 1, 14, 0});
+    check_walk(27, 14, 66, 2, (struct gorvlime_walked){0, 0, 2, 27, 1});
+    check_walk(27, 27, 11, 0, (struct gorvlime_walked){0, 0, 0, 27, 1});
+    check_walk(27, 28, 11, 0, (struct gorvlime_walked){0, 0, 0, 28, 1});
+    check_walk(27, 6, 10, 0, (struct gorvlime_walked){0, 0, 0, 6, 0});
     check_walk(27, 0, 0, 0, (struct gorvlime_walked){0, 0, 0, 0, 0});
-    check_walk(0, 0, 10, 0, (struct gorvlime_walked){0, 0, 0, 0, 1});
-    check_walk(13, 6, 10, 0, (struct gorvlime_walked){7, 6, 0, 6, 0});
+    check_walk(0, 0, 11, 0, (struct gorvlime_walked){0, 0, 0, 0, 1});
+    check_walk(13, 6, 11, 0, (struct gorvlime_walked){7, 6, 0, 6, 0});
     /* Cut off at every byte: the whole records, and the end or refusal 7 where the next one starts. */
     static const size_t ends[] = {0, 6, 14, 20, 27};
     for (size_t count = 0, whole = 0; count <= 27; count++) {
         whole += whole < 4 && count == ends[whole + 1];
         int cut = count != ends[whole];
-        check_walk(count, 0, 60, 0, (struct gorvlime_walked){cut ? 7 : 0, cut ? ends[whole] : 0, whole, ends[whole], !cut});
+        check_walk(count, 0, 66, 0, (struct gorvlime_walked){cut ? 7 : 0, cut ? ends[whole] : 0, whole, ends[whole], !cut});
     }
+}
+
+/* What 15 and 16 carry stands in the rows. */
+static void check_unreadable_rows(void)
+{
+    static const uint64_t expected[2 * GORVLIME_ROW] = {
+        1, 2, 3, 4, 5, 1, 15, 2, 0, 0, 2,
+        2, 2, 3, 4, 11, 1, 16, 2, 0, 0, 0,
+    };
+    struct lent dump = lend(UNREADABLE_DUMP);
+    uint64_t rows[2 * GORVLIME_ROW];
+    calling("walk of %s", UNREADABLE_DUMP);
+    same_walk(CALL(walk)(LENT(dump), 0, rows, 2 * GORVLIME_ROW), (struct gorvlime_walked){.rows = 2, .next = 12});
+    for (unsigned i = 0; i < 2 * GORVLIME_ROW; i++)
+        same("a number of the rows", rows[i], expected[i]);
 }
 
 /* Records one after the other that differ in m only, in t only or in v only: each is read by its own layout. */
@@ -230,7 +249,7 @@ static void check_changing_fields(void)
     same_walk(CALL(walk)(LENT(dump), 0, rows, FIELDS * GORVLIME_ROW), (struct gorvlime_walked){0, 0, FIELDS, dump.count, 0});
     for (unsigned i = 0; i < FIELDS; i++) {
         const uint64_t *f = fields[i];
-        const uint64_t expected[GORVLIME_ROW] = {i, f[0], f[1], f[2], start[i], length[i], 0, 1, 3, f[1] - 1};
+        const uint64_t expected[GORVLIME_ROW] = {i, f[0], f[1], f[2], start[i], length[i], 0, 1, 3, f[1] - 1, 0};
         for (unsigned j = 0; j < GORVLIME_ROW; j++)
             same("a number of the rows", rows[i * GORVLIME_ROW + j], expected[j]);
     }
@@ -271,6 +290,7 @@ void check_dump_calls(void)
     check_longest_record();
     check_steps();
     check_walks();
+    check_unreadable_rows();
     check_changing_fields();
     check_large_dumps();
 }

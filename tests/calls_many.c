@@ -14,6 +14,8 @@ static void same_many(struct gorvlime_many got, struct gorvlime_many expected)
     same("stopped", got.stopped, expected.stopped);
     same("field", got.field, expected.field);
     same("written", got.written, expected.written);
+    same("generation of the refused field", got.refused_generation, expected.refused_generation);
+    same("unerased groups of the refused field", got.refused_unerased, expected.refused_unerased);
     for (unsigned i = 0; i < GORVLIME_MANY; i++) {
         same("a generation", got.generation[i], expected.generation[i]);
         same("a turned count", got.turned[i], expected.turned[i]);
@@ -29,25 +31,29 @@ static const struct {
     struct gorvlime_many expected;
     const char *after;
 } writes[] = {
-    {{0, 2, 3, 4}, "00 00 00", 3, {3, 1, 2}, {0, 0, 0, 3, {1, 1, 1}, {2, 1, 1}}, "03 01 02"},
-    {{0, 2, 3, 4}, "03 0B 00", 3, {1, 2, 0}, {0, 0, 0, 3, {2, 3, 1}, {1, 2, 0}}, "0B 4F 00"},
-    {{1, 2, 3, 4}, "00 00 00", 3, {0, 0, 0}, {0, 0, 0, 3, {1, 1, 1}, {1, 1, 1}}, "01 01 01"},
-    {{0, 2, 3, 4}, "00", 1, {0}, {0, 0, 0, 1, {1}, {0}}, NULL},
+    {{0, 2, 3, 4}, "00 00 00", 3, {3, 1, 2}, {0, 0, 0, 3, 0, 0, {1, 1, 1}, {2, 1, 1}}, "03 01 02"},
+    {{0, 2, 3, 4}, "03 0B 00", 3, {1, 2, 0}, {0, 0, 0, 3, 0, 0, {2, 3, 1}, {1, 2, 0}}, "0B 4F 00"},
+    {{1, 2, 3, 4}, "00 00 00", 3, {0, 0, 0}, {0, 0, 0, 3, 0, 0, {1, 1, 1}, {1, 1, 1}}, "01 01 01"},
+    {{0, 2, 3, 4}, "00", 1, {0}, {0, 0, 0, 1, 0, 0, {1}, {0}}, NULL},
     {{0, 2, 3, 4}, "", 0, {0}, {0}, NULL},
     /* A stop, its refusal and its field. */
-    {{0, 2, 3, 4}, "03 4F 00", 3, {1, 1, 1}, {5, 1, 1, 1, {2}, {1}}, "0B 4F 00"},
-    {{0, 2, 3, 4}, "00 00 00", 3, {3, 4, 2}, {6, 1, 1, 1, {1}, {2}}, "03 00 00"},
-    {{0, 2, 3, 4}, "00 43 00", 3, {3, 1, 2}, {4, 1, 1, 1, {1}, {2}}, "03 43 00"},
-    {{0, 2, 3, 4}, "00 00 FF", 3, {3, 1, 2}, {4, 1, 2, 2, {1, 1}, {2, 1}}, "03 01 FF"},
-    {{0, 2, 3, 4}, "4F 00 00", 3, {3, 1, 2}, {5, 1, 0, 0, {0}, {0}}, NULL},
-    {{0, 2, 2, 20}, "00 40 00 41 00 40", 3, {0, 0, 0}, {3, 1, 1, 1, {2}, {4}}, "C1 C0 00 41 00 40"},
-    {{0, 2, 2, 20}, "00 01", 1, {0}, {3, 1, 0, 0, {0}, {0}}, NULL},
-    /* The order of the tests at a field: 3, 6, 4, 5. */
-    {{0, 2, 2, 20}, "00 00 02 81", 2, {16, 20}, {3, 1, 1, 1, {1}, {2}}, "01 40 02 81"},
-    {{0, 2, 2, 20}, "00 00 02 80", 2, {16, 20}, {6, 1, 1, 1, {1}, {2}}, "01 40 02 80"},
-    {{0, 2, 2, 20}, "00 00 C1 C0", 2, {16, UINT64_MAX}, {6, 1, 1, 1, {1}, {2}}, "01 40 C1 C0"},
-    {{0, 2, 2, 20}, "00 00 02 80", 2, {16, 19}, {4, 1, 1, 1, {1}, {2}}, "01 40 02 80"},
-    {{0, 2, 2, 20}, "00 00 C1 C0", 2, {16, 19}, {5, 1, 1, 1, {1}, {2}}, "01 40 C1 C0"},
+    {{0, 2, 3, 4}, "03 4F 00", 3, {1, 1, 1}, {5, 1, 1, 1, 0, 0, {2}, {1}}, "0B 4F 00"},
+    {{0, 2, 3, 4}, "00 00 00", 3, {3, 4, 2}, {6, 1, 1, 1, 0, 0, {1}, {2}}, "03 00 00"},
+    {{0, 2, 3, 4}, "00 43 00", 3, {3, 1, 2}, {16, 1, 1, 1, 2, 0, {1}, {2}}, "03 43 00"},
+    {{0, 2, 3, 4}, "03 0F 00", 3, {1, 1, 1}, {15, 1, 1, 1, 2, 2, {2}, {1}}, "0B 0F 00"},
+    {{0, 2, 3, 4}, "00 00 FF", 3, {3, 1, 2}, {15, 1, 2, 2, 3, 0, {1, 1}, {2, 1}}, "03 01 FF"},
+    {{0, 2, 3, 4}, "54", 1, {3}, {15, 1, 0, 0, 3, 4, {0}, {0}}, NULL},
+    {{0, 2, 3, 4}, "4F 00 00", 3, {3, 1, 2}, {5, 1, 0, 0, 0, 0, {0}, {0}}, NULL},
+    {{0, 2, 2, 20}, "00 40 00 41 00 40", 3, {0, 0, 0}, {3, 1, 1, 1, 0, 0, {2}, {4}}, "C1 C0 00 41 00 40"},
+    {{0, 2, 2, 20}, "00 01", 1, {0}, {3, 1, 0, 0, 0, 0, {0}, {0}}, NULL},
+    /* The order of the tests at a field: 3, 6, 15, 16, 5. */
+    {{0, 2, 2, 20}, "00 00 02 81", 2, {16, 20}, {3, 1, 1, 1, 0, 0, {1}, {2}}, "01 40 02 81"},
+    {{0, 2, 2, 20}, "00 00 FF C0", 2, {16, 20}, {6, 1, 1, 1, 0, 0, {1}, {2}}, "01 40 FF C0"},
+    {{0, 2, 2, 20}, "00 00 02 80", 2, {16, 20}, {6, 1, 1, 1, 0, 0, {1}, {2}}, "01 40 02 80"},
+    {{0, 2, 2, 20}, "00 00 C1 C0", 2, {16, UINT64_MAX}, {6, 1, 1, 1, 0, 0, {1}, {2}}, "01 40 C1 C0"},
+    {{0, 2, 2, 20}, "00 00 FF C0", 2, {16, 19}, {15, 1, 1, 1, 2, 0, {1}, {2}}, "01 40 FF C0"},
+    {{0, 2, 2, 20}, "00 00 02 80", 2, {16, 19}, {16, 1, 1, 1, 1, 0, {1}, {2}}, "01 40 02 80"},
+    {{0, 2, 2, 20}, "00 00 C1 C0", 2, {16, 19}, {5, 1, 1, 1, 0, 0, {1}, {2}}, "01 40 C1 C0"},
     /* And of all fields, before any is written: 1, 3. */
     {{0, 5, 3, 4}, "00 00", 2, {3, 1}, {.refusal = 1}, NULL},
     {{0, 5, 3, 4}, "00", 0, {0}, {.refusal = 1}, NULL},
@@ -64,6 +70,8 @@ static const struct {
 
 static void check_values(void)
 {
+    calling("write many");
+    same("bytes of an answer", sizeof(struct gorvlime_many), 304);
     for (size_t i = 0; i < sizeof writes / sizeof writes[0]; i++) {
         struct lent cells = lend(writes[i].cells);
         calling("write many %zu, cells %s", i, writes[i].cells);
@@ -93,6 +101,7 @@ static void check_too_many(void)
 struct strip {
     struct gorvlime_shape shape;
     size_t wits, bytes;   /* of one field */
+    size_t last;          /* its groups in the last generation */
     uint64_t numbers[GORVLIME_MANY];
     uint8_t all[MARGIN + MOST_STRIP + MARGIN];
 };
@@ -105,7 +114,8 @@ static uint8_t *field_of(struct strip *s, size_t i)
 /* Field i is written i modulo t times, so that each has a write left, and its number is in range. */
 static struct strip lend_strip(struct gorvlime_shape shape)
 {
-    struct strip s = {.shape = shape, .wits = shape.m * CALL(layout)(shape, 256).h[0]};
+    struct gorvlime_counts counts = CALL(layout)(shape, 256);
+    struct strip s = {.shape = shape, .wits = shape.m * counts.h[0], .last = counts.h[shape.t - 1]};
     s.bytes = (s.wits + 7) / 8;
     memset(s.all, UNTOUCHED, sizeof s.all);
     memset(field_of(&s, 0), 0, GORVLIME_MANY * s.bytes);
@@ -121,14 +131,19 @@ static struct strip lend_strip(struct gorvlime_shape shape)
 static struct gorvlime_many write_singly(struct strip *s, size_t count)
 {
     struct gorvlime_many expected = {0};
-    for (size_t i = 0; i < count && expected.stopped == 0; i++) {
+    for (size_t i = 0; i < count; i++) {
         struct gorvlime_writing w = CALL(write)(s->shape, field_of(s, i), s->bytes, s->numbers[i]);
-        expected.refusal = w.refusal;
-        expected.stopped = w.refusal != 0;
-        expected.field = w.refusal != 0 ? i : 0;
-        expected.written += w.refusal == 0;
-        expected.generation[i] = w.generation;
-        expected.turned[i] = w.turned;
+        if (w.refusal != 0) {
+            expected.refusal = w.refusal;
+            expected.stopped = 1;
+            expected.field = i;
+            expected.refused_generation = w.generation;
+            expected.refused_unerased = w.unerased;
+            break;
+        }
+        expected.written++;
+        expected.generation[i] = (uint16_t)w.generation;
+        expected.turned[i] = (uint16_t)w.turned;
     }
     return expected;
 }
@@ -170,32 +185,41 @@ static void check_counts(struct gorvlime_shape shape)
     }
 }
 
-/* Makes the write of a field be refused with 6, 3, 5 or 4. */
+/* The last groups of a field hold the highest digit, those before them are all ones. */
+static void set_highest(struct strip *s, uint8_t *cells, size_t unerased)
+{
+    size_t m = s->shape.m, erased = s->wits / m - unerased;
+    memset(cells, 0, s->bytes);
+    for (size_t wit = 0; wit < s->wits; wit++)
+        if (wit / m < erased || wit % m < m - 1)
+            cells[wit / 8] |= 0x80 >> wit % 8;
+}
+
+/* Makes the write of a field be refused with 6, 3, 5, 15 or 16. In the last generation, one unerased group more is 15. */
 static void spoil(struct strip *s, size_t i, uint64_t refusal)
 {
-    uint8_t *cells = field_of(s, i), *last = cells + s->bytes - 1;
-    size_t left_over = 8 * s->bytes - s->wits;
+    uint8_t *cells = field_of(s, i);
     if (refusal == 6)
         s->numbers[i] = s->shape.v;
     if (refusal == 3)
-        *last |= 1;
+        cells[s->bytes - 1] |= 1;
     for (uint64_t j = 0; refusal == 5 && j < s->shape.t; j++)
         CALL(write)(s->shape, cells, s->bytes, 1);
-    if (refusal == 4) {
-        memset(cells, 0xff, s->bytes);
-        *last = 0xff << left_over;
-    }
+    if (refusal == 15)
+        set_highest(s, cells, s->last + 1);
+    if (refusal == 16)
+        set_highest(s, cells, s->last);
 }
 
 /* Behind the field stand one that could be written and another fault; neither is reached. */
 static void check_stops(struct gorvlime_shape shape)
 {
-    static const uint64_t refusals[] = {6, 3, 5, 4};
+    static const uint64_t refusals[] = {6, 3, 5, 15, 16};
     static const size_t places[] = {0, 1, 31, GORVLIME_MANY - 2, GORVLIME_MANY - 1};
-    for (unsigned i = 0; i < 4 * sizeof places / sizeof places[0]; i++) {
+    for (unsigned i = 0; i < 5 * sizeof places / sizeof places[0]; i++) {
         struct strip s = lend_strip(shape);
-        uint64_t refusal = refusals[i % 4];
-        size_t place = places[i / 4];
+        uint64_t refusal = refusals[i % 5];
+        size_t place = places[i / 5];
         if (refusal == 3 && s.wits % 8 == 0)
             continue;
         spoil(&s, place, refusal);
@@ -207,6 +231,8 @@ static void check_stops(struct gorvlime_shape shape)
         same("the field that was spoilt", stop.field, place);
         same("fields before it", stop.written, place);
         same("its refusal", stop.refusal, refusal);
+        same("its generation", stop.refused_generation, refusal >= 15 ? shape.t : 0);
+        same("its unerased groups", stop.refused_unerased, refusal == 15 ? s.last + 1 : 0);
     }
 }
 

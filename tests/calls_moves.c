@@ -214,7 +214,7 @@ static void check_changing_layouts(void)
     for (size_t i = 0, at = first; i < RECORDS; i++) {
         struct gorvlime_found_new s = CALL(step_new)(dump, count, at);
         uint64_t expected[GORVLIME_ROW_NEW] = {
-            i, order[i], s.shape.form, s.shape.m, s.shape.t, s.shape.v, s.start, s.length, 0, 1, 3, s.shape.t - 1,
+            i, order[i], s.shape.form, s.shape.m, s.shape.t, s.shape.v, s.start, s.length, 0, 1, 3, s.shape.t - 1, 0,
         };
         same("the listed shape", memcmp(&s.shape, &shapes[order[i]], sizeof s.shape), 0);
         for (unsigned j = 0; j < GORVLIME_ROW_NEW; j++)

@@ -117,6 +117,7 @@ static void check_longest(void)
     "02 00 02 03 04 00 02 02 14  07 00 01 4F  AC 02 01 02 00 40  08 00 01 00  09 01 02 02 80"
 #define OLD_4 "01 00 02 03 04"
 #define NEW_4 "01 01 02 03 04"
+#define UNREADABLE_DUMP NEW_4 " 07 00 01 0F 08 00 01 08"
 #define BROKEN {.refusal = 7}
 
 static const struct {
@@ -176,6 +177,7 @@ static void same_step(struct gorvlime_found_new got, struct gorvlime_found_new e
     same("generation", got.generation, expected.generation);
     same("number", got.number, expected.number);
     same("left", got.left, expected.left);
+    same("unerased", got.unerased, expected.unerased);
 }
 
 /* A step and a walk are refused as the list is, at any offset and with any room. */
@@ -203,35 +205,37 @@ static const struct {
     size_t at;
     struct gorvlime_found_new found;
 } steps[] = {
-    {NEW_DUMP, 9, {0, 0, 1, 7, 0, {0, 2, 3, 4}, 12, 1, 13, 0, 3, 2, 0}},
-    {NEW_DUMP, 13, {0, 0, 1, 300, 1, {0, 2, 2, 20}, 17, 2, 19, 0, 1, 1, 1}},
-    {NEW_DUMP, 19, {0, 0, 1, 8, 0, {0, 2, 3, 4}, 22, 1, 23, 0, 1, 0, 3}},
-    {NEW_DUMP, 23, {0, 0, 1, 9, 1, {0, 2, 2, 20}, 26, 2, 28, 4, 0, 0, 0}},
+    {NEW_DUMP, 9, {0, 0, 1, 7, 0, {0, 2, 3, 4}, 12, 1, 13, 0, 3, 2, 0, 0}},
+    {NEW_DUMP, 13, {0, 0, 1, 300, 1, {0, 2, 2, 20}, 17, 2, 19, 0, 1, 1, 1, 0}},
+    {NEW_DUMP, 19, {0, 0, 1, 8, 0, {0, 2, 3, 4}, 22, 1, 23, 0, 1, 0, 3, 0}},
+    {NEW_DUMP, 23, {0, 0, 1, 9, 1, {0, 2, 2, 20}, 26, 2, 28, 16, 1, 0, 0, 0}},
     {NEW_DUMP, 28, END},
     {NEW_DUMP, 29, END},
     {NEW_DUMP, SIZE_MAX, END},
     /* Offsets inside the list: what stands there is read as a record. */
-    {NEW_DUMP, 0, {0, 0, 1, 2, 0, {0, 2, 3, 4}, 3, 2, 5, 3, 0, 0, 0}},
+    {NEW_DUMP, 0, {0, 0, 1, 2, 0, {0, 2, 3, 4}, 3, 2, 5, 3, 0, 0, 0, 0}},
     {NEW_DUMP, 1, STOP(1)},
-    {NEW_DUMP, 4, {0, 0, 1, 4, 0, {0, 2, 3, 4}, 7, 2, 9, 3, 0, 0, 0}},
+    {NEW_DUMP, 4, {0, 0, 1, 4, 0, {0, 2, 3, 4}, 7, 2, 9, 3, 0, 0, 0, 0}},
     {NEW_DUMP, 8, STOP(8)},
     {"00", 0, STOP(0)},
     {"00", 1, END},
     {"00 07 00 00", 1, STOP(1)},
     /* A record's own refusals. */
-    {NEW_4 " 07 00 01 00", 5, {0, 0, 1, 7, 0, {1, 2, 3, 4}, 8, 1, 9, 11, 0, 0, 0}},
-    {NEW_4 " 07 00 01 01", 5, {0, 0, 1, 7, 0, {1, 2, 3, 4}, 8, 1, 9, 0, 1, 0, 2}},
-    {NEW_4 " 07 00 01 08", 5, {0, 0, 1, 7, 0, {1, 2, 3, 4}, 8, 1, 9, 4, 0, 0, 0}},
-    {NEW_4 " 07 00 00", 5, {0, 0, 1, 7, 0, {1, 2, 3, 4}, 8, 0, 8, 3, 0, 0, 0}},
-    {"01 01 02 02 14 07 00 02 00 01", 5, {0, 0, 1, 7, 0, {1, 2, 2, 20}, 8, 2, 10, 3, 0, 0, 0}},
-    {"01 02 02 03 04 07 00 01 4F", 5, {0, 0, 1, 7, 0, {2, 2, 3, 4}, 8, 1, 9, 1, 0, 0, 0}},
-    {"01 00 05 03 04 07 00 01 4F", 5, {0, 0, 1, 7, 0, {0, 5, 3, 4}, 8, 1, 9, 1, 0, 0, 0}},
-    {"01 00 02 11 04 07 00 00", 5, {0, 0, 1, 7, 0, {0, 2, 17, 4}, 8, 0, 8, 1, 0, 0, 0}},
-    {"01 00 02 03 01 07 00 00", 5, {0, 0, 1, 7, 0, {0, 2, 3, 1}, 8, 0, 8, 1, 0, 0, 0}},
+    {NEW_4 " 07 00 01 00", 5, {0, 0, 1, 7, 0, {1, 2, 3, 4}, 8, 1, 9, 11, 0, 0, 0, 0}},
+    {NEW_4 " 07 00 01 01", 5, {0, 0, 1, 7, 0, {1, 2, 3, 4}, 8, 1, 9, 0, 1, 0, 2, 0}},
+    {UNREADABLE_DUMP, 5, {0, 0, 1, 7, 0, {1, 2, 3, 4}, 8, 1, 9, 15, 2, 0, 0, 2}},
+    {UNREADABLE_DUMP, 9, {0, 0, 1, 8, 0, {1, 2, 3, 4}, 12, 1, 13, 16, 1, 0, 0, 0}},
+    {NEW_4 " 07 00 01 FF", 5, {0, 0, 1, 7, 0, {1, 2, 3, 4}, 8, 1, 9, 15, 3, 0, 0, 0}},
+    {NEW_4 " 07 00 00", 5, {0, 0, 1, 7, 0, {1, 2, 3, 4}, 8, 0, 8, 3, 0, 0, 0, 0}},
+    {"01 01 02 02 14 07 00 02 00 01", 5, {0, 0, 1, 7, 0, {1, 2, 2, 20}, 8, 2, 10, 3, 0, 0, 0, 0}},
+    {"01 02 02 03 04 07 00 01 4F", 5, {0, 0, 1, 7, 0, {2, 2, 3, 4}, 8, 1, 9, 1, 0, 0, 0, 0}},
+    {"01 00 05 03 04 07 00 01 4F", 5, {0, 0, 1, 7, 0, {0, 5, 3, 4}, 8, 1, 9, 1, 0, 0, 0, 0}},
+    {"01 00 02 11 04 07 00 00", 5, {0, 0, 1, 7, 0, {0, 2, 17, 4}, 8, 0, 8, 1, 0, 0, 0, 0}},
+    {"01 00 02 03 01 07 00 00", 5, {0, 0, 1, 7, 0, {0, 2, 3, 1}, 8, 0, 8, 1, 0, 0, 0, 0}},
     /* A layout that is out of bounds says nothing of the others. */
-    {"02 09 00 00 00 00 02 03 04 07 01 01 4F", 9, {0, 0, 1, 7, 1, {0, 2, 3, 4}, 12, 1, 13, 0, 3, 2, 0}},
+    {"02 09 00 00 00 00 02 03 04 07 01 01 4F", 9, {0, 0, 1, 7, 1, {0, 2, 3, 4}, 12, 1, 13, 0, 3, 2, 0, 0}},
     /* Equal layouts, each by its number. */
-    {"02 00 02 03 04 00 02 03 04 07 01 01 4F", 9, {0, 0, 1, 7, 1, {0, 2, 3, 4}, 12, 1, 13, 0, 3, 2, 0}},
+    {"02 00 02 03 04 00 02 03 04 07 01 01 4F", 9, {0, 0, 1, 7, 1, {0, 2, 3, 4}, 12, 1, 13, 0, 3, 2, 0, 0}},
     /* A layout number out of the list, and some that are in it if only their low bits count. */
     {OLD_4 " 07 00 01 4F 08 01 01 4F", 9, STOP(9)},
     {OLD_4 " 08 01 01 4F", 5, STOP(5)},
@@ -244,7 +248,7 @@ static const struct {
     {OLD_4 " 08 80 00 01 4F", 5, STOP(5)},
     {OLD_4 " 08 00 81 00 4F", 5, STOP(5)},
     {OLD_4 " FF FF FF FF FF FF FF FF FF 01 00 01 4F", 5, STOP(5)},
-    {OLD_4 " FF FF FF FF FF FF FF FF 7F 00 01 4F", 5, {0, 0, 1, MOST_SERIAL, 0, {0, 2, 3, 4}, 16, 1, 17, 0, 3, 2, 0}},
+    {OLD_4 " FF FF FF FF FF FF FF FF 7F 00 01 4F", 5, {0, 0, 1, MOST_SERIAL, 0, {0, 2, 3, 4}, 16, 1, 17, 0, 3, 2, 0, 0}},
     {OLD_4 " 08", 5, STOP(5)},
     {OLD_4 " 08 00", 5, STOP(5)},
     {OLD_4 " 08 00 01", 5, STOP(5)},
@@ -263,10 +267,10 @@ static void check_steps(void)
 }
 
 static const uint64_t new_rows[4][GORVLIME_ROW_NEW] = {
-    {7, 0, 0, 2, 3, 4, 12, 1, 0, 3, 2, 0},
-    {300, 1, 0, 2, 2, 20, 17, 2, 0, 1, 1, 1},
-    {8, 0, 0, 2, 3, 4, 22, 1, 0, 1, 0, 3},
-    {9, 1, 0, 2, 2, 20, 26, 2, 4, 0, 0, 0},
+    {7, 0, 0, 2, 3, 4, 12, 1, 0, 3, 2, 0, 0},
+    {300, 1, 0, 2, 2, 20, 17, 2, 0, 1, 1, 1, 0},
+    {8, 0, 0, 2, 3, 4, 22, 1, 0, 1, 0, 3, 0},
+    {9, 1, 0, 2, 2, 20, 26, 2, 16, 1, 0, 0, 0},
 };
 
 /* A walk of part of the dump, its rows beginning with the row `first`. */
@@ -289,30 +293,45 @@ static void check_walk(size_t dump_count, size_t at, size_t rows_count, unsigned
 
 static void check_walks(void)
 {
-    check_walk(28, 9, 72, 0, (struct gorvlime_walked){0, 0, 4, 28, 1});
-    check_walk(28, 9, 60, 0, (struct gorvlime_walked){0, 0, 4, 28, 1});
+    check_walk(28, 9, 78, 0, (struct gorvlime_walked){0, 0, 4, 28, 1});
+    check_walk(28, 9, 65, 0, (struct gorvlime_walked){0, 0, 4, 28, 1});
     /* The rows are used up: a step for the end is not taken. */
-    check_walk(28, 9, 59, 0, (struct gorvlime_walked){0, 0, 4, 28, 0});
-    check_walk(28, 9, 48, 0, (struct gorvlime_walked){0, 0, 4, 28, 0});
-    check_walk(28, 9, 47, 0, (struct gorvlime_walked){0, 0, 3, 23, 0});
-    check_walk(28, 9, 12, 0, (struct gorvlime_walked){0, 0, 1, 13, 0});
-    check_walk(28, 13, 23, 1, (struct gorvlime_walked){0, 0, 1, 19, 0});
-    check_walk(28, 19, 72, 2, (struct gorvlime_walked){0, 0, 2, 28, 1});
-    check_walk(28, 28, 12, 0, (struct gorvlime_walked){0, 0, 0, 28, 1});
-    check_walk(28, 29, 12, 0, (struct gorvlime_walked){0, 0, 0, 29, 1});
-    check_walk(28, 13, 11, 0, (struct gorvlime_walked){0, 0, 0, 13, 0});
+    check_walk(28, 9, 64, 0, (struct gorvlime_walked){0, 0, 4, 28, 0});
+    check_walk(28, 9, 52, 0, (struct gorvlime_walked){0, 0, 4, 28, 0});
+    check_walk(28, 9, 51, 0, (struct gorvlime_walked){0, 0, 3, 23, 0});
+    check_walk(28, 9, 13, 0, (struct gorvlime_walked){0, 0, 1, 13, 0});
+    check_walk(28, 13, 25, 1, (struct gorvlime_walked){0, 0, 1, 19, 0});
+    check_walk(28, 19, 78, 2, (struct gorvlime_walked){0, 0, 2, 28, 1});
+    check_walk(28, 28, 13, 0, (struct gorvlime_walked){0, 0, 0, 28, 1});
+    check_walk(28, 29, 13, 0, (struct gorvlime_walked){0, 0, 0, 29, 1});
+    check_walk(28, 13, 12, 0, (struct gorvlime_walked){0, 0, 0, 13, 0});
     check_walk(28, 9, 0, 0, (struct gorvlime_walked){0, 0, 0, 9, 0});
-    check_walk(28, 8, 12, 0, (struct gorvlime_walked){7, 8, 0, 8, 0});
-    check_walk(18, 13, 12, 0, (struct gorvlime_walked){7, 13, 0, 13, 0});
+    check_walk(28, 8, 13, 0, (struct gorvlime_walked){7, 8, 0, 8, 0});
+    check_walk(18, 13, 13, 0, (struct gorvlime_walked){7, 13, 0, 13, 0});
     /* Cut off at every byte: a broken list; then the whole records, and the end or refusal 7 where the next one starts. */
     static const size_t ends[] = {9, 13, 19, 23, 28};
     for (size_t count = 0; count < 9; count++)
-        check_walk(count, 9, 72, 0, (struct gorvlime_walked)BROKEN);
+        check_walk(count, 9, 78, 0, (struct gorvlime_walked)BROKEN);
     for (size_t count = 9, whole = 0; count <= 28; count++) {
         whole += whole < 4 && count == ends[whole + 1];
         int cut = count != ends[whole];
-        check_walk(count, 9, 72, 0, (struct gorvlime_walked){cut ? 7 : 0, cut ? ends[whole] : 0, whole, ends[whole], !cut});
+        check_walk(count, 9, 78, 0, (struct gorvlime_walked){cut ? 7 : 0, cut ? ends[whole] : 0, whole, ends[whole], !cut});
     }
+}
+
+/* What 15 and 16 carry stands in the rows. */
+static void check_unreadable_rows(void)
+{
+    static const uint64_t expected[2 * GORVLIME_ROW_NEW] = {
+        7, 0, 1, 2, 3, 4, 8, 1, 15, 2, 0, 0, 2,
+        8, 0, 1, 2, 3, 4, 12, 1, 16, 1, 0, 0, 0,
+    };
+    struct lent dump = lend(UNREADABLE_DUMP);
+    uint64_t rows[2 * GORVLIME_ROW_NEW];
+    calling("walk of the new dump %s", UNREADABLE_DUMP);
+    same_walk(CALL(walk_new)(LENT(dump), 5, rows, 2 * GORVLIME_ROW_NEW), (struct gorvlime_walked){.rows = 2, .next = 13});
+    for (unsigned i = 0; i < 2 * GORVLIME_ROW_NEW; i++)
+        same("a number of the rows", rows[i], expected[i]);
 }
 
 void check_new_dump_calls(void)
@@ -323,4 +342,5 @@ void check_new_dump_calls(void)
     check_lists();
     check_steps();
     check_walks();
+    check_unreadable_rows();
 }

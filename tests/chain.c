@@ -32,6 +32,7 @@ static void check_blank(struct gorvlime_shape shape, const struct lent *cells)
     same("generation", r.generation, is_number ? 1 : 0);
     same("number", r.number, 0);
     same("left", r.left, is_number ? shape.t : 0);
+    same("unerased", r.unerased, 0);
 }
 
 void check_chain(struct gorvlime_shape shape, uint64_t number)
@@ -53,6 +54,9 @@ void check_chain(struct gorvlime_shape shape, uint64_t number)
         same("generation read", r.generation, i);
         same("number read", r.number, number);
         same("left", r.left, shape.t - i);
+        same("unerased", w.unerased + r.unerased, 0);
     }
-    same("refusal of one more", CALL(write)(shape, LENT(cells), number).refusal, 5);
+    struct gorvlime_writing more = CALL(write)(shape, LENT(cells), number);
+    same("refusal of one more", more.refusal, 5);
+    same("its other numbers", more.generation + more.turned + more.unerased, 0);
 }

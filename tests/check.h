@@ -34,6 +34,8 @@ int done(unsigned due);
 
 void check_forms(void);
 
+void check_unreadable(void);
+
 void check_many_fields(void);
 
 void check_dump_calls(void);
