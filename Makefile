@@ -19,7 +19,7 @@ test:
 	@tests/run-triangle
 	@tests/run-calls
 	@tests/run-hex
-	@tools/frames target/staticlib/libgorvlime.a --limit 1700 --limit gorvlime_layout=496 --limit gorvlime_move_to_new=2400 --limit gorvlime_write_many=3040
+	@tools/frames target/staticlib/libgorvlime.a --limit 1700 --limit gorvlime_layout=496 --limit gorvlime_move_to_new=2400 --limit gorvlime_write_many=2000
 	@tests/crosscheck $(CALLS)
 	@rt ci
 

@@ -15,7 +15,7 @@ outputMost = 1024
 
 -- the most numbers of a row
 abbrev pub rowMost : ℕ
-rowMost = 12
+rowMost = 13
 
 -- the most bytes of a piece of text
 abbrev pub pieceMost : ℕ

@@ -7,6 +7,7 @@ use dump::Halt;
 use dump::Opened;
 use dump::Walked;
 use reading::Reading;
+use reading::Refusal;
 use writing::Writing;
 ghost use mathlib.Core.Path.{_≡_};
 ghost use Prim.Native.Nat.{_≤_};
@@ -16,7 +17,7 @@ ghost use Rattle.dump.specs.Answers.{walkedOf};
 ghost use Rattle.answers.specs.Bounds.{pieceMost, rowMost, Fits};
 
 // The numbers of a row that are the reply to reading the record's cells.
-const REPLY: usize = 4;
+const REPLY: usize = 5;
 
 fn put_counts(out: &mut [u8], at: usize, h: &[u64], count: usize) -> usize
     requires { ⌜ Fits at (now out) × (count ≤ length (now h)) ⌝ }
@@ -37,6 +38,21 @@ pub fn put_layout(out: &mut [u8], at: usize, s: Shape, g: u64) -> usize
     put_counts(out, at, &h, s.t as usize)
 }
 
+// A refusal and what it carries.
+fn put_refusal(out: &mut [u8], at: usize, refusal: Refusal) -> usize
+    requires { ⌜ Fits at (now out) ⌝ }
+    ensures { λ r. ⌜ Fits r (now (out .exit)) ⌝ }
+{
+    match refusal {
+        Refusal::Plain(number) => output::put_numbers(out, at, b"", &[number]),
+        Refusal::Miscounted {
+            generation,
+            unerased,
+        } => output::put_numbers(out, at, b"", &[15, generation, unerased]),
+        Refusal::Beyond { generation } => output::put_numbers(out, at, b"", &[16, generation]),
+    }
+}
+
 // What a reading answers, and the end of its line.
 fn put_reply(out: &mut [u8], at: usize, answer: Reading) -> usize
     requires { ⌜ Fits at (now out) ⌝ }
@@ -48,7 +64,10 @@ fn put_reply(out: &mut [u8], at: usize, answer: Reading) -> usize
             number,
             left,
         } => output::put_line(out, at, b"", &[0, generation, number, left]),
-        Reading::Refused(refusal) => output::put_line(out, at, b"", &[refusal]),
+        Reading::Refused(refusal) => {
+            let place = put_refusal(out, at, refusal);
+            output::put_word(out, place, b"\n")
+        }
     }
 }
 
@@ -68,7 +87,10 @@ fn put_writing(out: &mut [u8], at: usize, answer: Writing) -> usize
         Writing::Written { generation, turned } => {
             output::put_numbers(out, at, b"write", &[0, generation, turned])
         }
-        Writing::Refused(refusal) => output::put_numbers(out, at, b"write", &[refusal]),
+        Writing::Refused(refusal) => {
+            let place = output::put_word(out, at, b"write");
+            put_refusal(out, place, refusal)
+        }
     }
 }
 
@@ -174,7 +196,7 @@ fn put_records(
 
 // The shape in a row.
 fn shape_in(kind: Kind, row: &[u64]) -> Shape
-    requires { ⌜ 10 ≤ length (now row) ⌝ }
+    requires { ⌜ 11 ≤ length (now row) ⌝ }
 {
     match kind {
         Kind::Old => Shape {
@@ -194,7 +216,7 @@ fn shape_in(kind: Kind, row: &[u64]) -> Shape
 
 // The line of a row, with the reply to reading the record's part of the dump, which is what the row goes on with.
 fn put_record(out: &mut [u8], at: usize, dump: &[u8], kind: Kind, row: &[u64]) -> usize
-    requires { ⌜ Fits at (now out) × (10 ≤ length (now row)) ⌝ }
+    requires { ⌜ Fits at (now out) × (11 ≤ length (now row)) ⌝ }
     ensures { λ r. ⌜ Fits r (now (out .exit)) ⌝ }
 {
     let numbers = row.len() - REPLY;

@@ -2,7 +2,8 @@
 // bytes from the low one up; cells or a dump follow as one number more, which counts them, and the bytes themselves:
 //
 //     1 layout   form m t v g                   layout 0 h_1 .. h_t | layout N
-//     2 read     form m t v, cells              read 0 generation number left | read N
+//     2 read     form m t v, cells              read 0 generation number left | read N, where N may be 15 generation unerased or
+//                                               16 generation, here and wherever a reading or a write is refused
 //     3 write    form m t v number, cells       write 0 generation turned CELLS | write N CELLS
 //     4 export   serial m t v outlen, cells     export 0 length OUT | export N OUT
 //     5 walk     dump                           record serial m t v start length 0 generation number left, or

@@ -5,12 +5,28 @@ use many::Many;
 ghost use Prim.Native.Nat.{_≤_};
 ghost use Rattle.answers.specs.Bounds.{Fits};
 
+// The refusal of a field and what it carries.
+fn put_refusal(out: &mut [u8], at: usize, answer: Many) -> usize
+    requires { ⌜ Fits at (now out) ⌝ }
+    ensures { λ r. ⌜ Fits r (now (out .exit)) ⌝ }
+{
+    let place = output::put_numbers(out, at, b"many", &[answer.refusal]);
+    if answer.refusal == 15 {
+        let carried = [answer.reached, answer.unerased];
+        return output::put_numbers(out, place, b"", &carried);
+    }
+    if answer.refusal == 16 {
+        return output::put_numbers(out, place, b"", &[answer.reached]);
+    }
+    place
+}
+
 fn put_outcome(out: &mut [u8], at: usize, answer: Many) -> usize
     requires { ⌜ Fits at (now out) ⌝ }
     ensures { λ r. ⌜ Fits r (now (out .exit)) ⌝ }
 {
     if answer.stopped != 0 {
-        let place = output::put_numbers(out, at, b"many", &[answer.refusal]);
+        let place = put_refusal(out, at, answer);
         return output::put_numbers(out, place, b" field", &[answer.field]);
     }
     if answer.refusal != 0 {
@@ -34,13 +50,12 @@ fn put_made(out: &mut [u8], at: usize, answer: Many) -> usize
     requires { ⌜ Fits at (now out) ⌝ }
     ensures { λ r. ⌜ Fits r (now (out .exit)) ⌝ }
 {
-    let generations = answer.generations;
-    let turned = answer.turned;
+    let rows = answer.rows;
     let count = told(answer);
     let mut place = at;
     let mut j = 0;
     while j < count {
-        place = output::put_numbers(out, place, b"", &[generations[j], turned[j]]);
+        place = output::put_numbers(out, place, b"", &[rows[j] as u64, rows[64 + j] as u64]);
         j += 1;
     }
     place

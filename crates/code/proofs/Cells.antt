@@ -16,7 +16,7 @@ use Rattle.code.specs.Lists.{Upto}
 use Rattle.code.specs.Cells.{place, wit, value, listed, sum, group, groups, opened, size, sound, witOf, byteOf, stored, ones, turned}
 use Rattle.code.proofs.Tests.{both-true}
 use Rattle.code.proofs.Numbers.{bit, bit-full, value-byte, value-bit, value-is, value-zero, value-none, listed-length, listed-at}
-use Rattle.code.proofs.Numbers.{sum-difference, sum-split, sum-same}
+use Rattle.code.proofs.Numbers.{sum-most, sum-difference, sum-split, sum-same}
 use Rattle.code.proofs.Wits.{Bytes, wit-lt, wit-past, wit-front, wit-behind, wit-ext, place-lt, place-place}
 use Rattle.code.proofs.Groups.{Grows}
 
@@ -187,6 +187,11 @@ pub turned-ones : (o : ℕ) (before after : List ℕ) → length after ≡ lengt
     turned o before after + ones o before ≡ ones o after
 unfolding turned ones
 turned-ones o before after n g = rw n (sum-difference (wit o before) (wit o after) (8 * length before) g)
+
+-- no more wits turn than there are
+pub turned-most : (o : ℕ) (before after : List ℕ) → turned o before after ≤ 8 * length before
+unfolding turned
+turned-most o before after = sum-most (λ w. wit o after w - wit o before w) (8 * length before) (λ w. omega (arith, wit-lt o after w))
 
 -- the ones of two buffers end to end
 pub ones-append : (o : ℕ) (xs ys : List ℕ) → ones o (xs ++ ys) ≡ ones o xs + ones o ys

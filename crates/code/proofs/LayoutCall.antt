@@ -11,7 +11,7 @@ use lib.Dec.{leb, eqb}
 use borrow.Author.Tests.{le-leb, lt-ltb, le-ltb, ltb-false, leb-true, not-false}
 use Rattle.code.specs.declared.Shape.{Shape}
 use Rattle.code.specs.Shape.{firstOf, rangesOf, outside, Bounds, granted, misfit, countsOf, widthOf}
-use Rattle.code.specs.Calls.{filled, layoutFields, refusal, answer, layoutRefusal, layoutReply}
+use Rattle.code.specs.Calls.{filled, readFields, layoutFields, refusal, answer, layoutRefusal, layoutReply}
 use Rattle.code.proofs.Tests.{both-true, clash}
 use Rattle.code.proofs.Conditions.{Layout}
 use Rattle.code.specs.Lists.{Upto}
@@ -173,6 +173,15 @@ zeros-behind (x ∷ xs) n (suc i) = zeros-behind xs n i
 pub filled-length : (n : ℕ) (reply : List ℕ) → length (filled n reply) ≡ n
 unfolding filled
 filled-length n reply = simp (length-take, length-append, length-replicate) (omega arith)
+
+-- the fields of a reading are five
+pub read-fields-length : (reply : List ℕ) → length (readFields reply) ≡ 5
+unfolding readFields
+read-fields-length reply = go (eqb (getD reply 0 0) 0)
+  where
+    go : (b : Bool) → length (cond b (filled 5 reply) (getD reply 0 0 ∷ getD reply 1 0 ∷ 0 ∷ 0 ∷ getD reply 2 0 ∷ [])) ≡ 5
+    go true = filled-length 5 reply
+    go false = refl
 
 -- refused for the bounds, refused for g, granted
 module _ (s : Shape) (g : ℕ) where

@@ -19,6 +19,7 @@ pub mod Bytes
 pub mod LayoutCall
 pub mod ReadCall
 pub mod WriteCall
+pub mod Unread
 pub mod Demand
 pub mod Rows
 pub mod Published

@@ -112,6 +112,12 @@ unfolding sum
 sum-split f a zero = rw (add-zero a) (omega arith)
 sum-split f a (suc b) = rw (add-suc a b) (omega (arith, sum-split f a b))
 
+-- numbers of at most 1 add up to at most how many they are
+pub sum-most : (f : ℕ → ℕ) (n : ℕ) → ((k : ℕ) → f k ≤ 1) → sum f n ≤ n
+unfolding sum
+sum-most f zero h = omega arith
+sum-most f (suc n) h = omega (arith, sum-most f n h, h n)
+
 pub sum-same : (f g : ℕ → ℕ) (n : ℕ) → ((k : ℕ) → k < n → f k ≡ g k) → sum f n ≡ sum g n
 unfolding sum
 sum-same f g zero e = refl

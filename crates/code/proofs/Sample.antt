@@ -10,7 +10,7 @@ use Rattle.code.specs.Deal.{written, rank, digits, number, plain}
 use Rattle.code.specs.Cells.{place, wit, value, listed, group, groups, sound}
 use Rattle.code.specs.Field.{zeros, unerased, past, base, fewest, carriers, told, judged, read}
 use Rattle.code.specs.Shape.{firstOf, rangesOf, orderOf, outside, granted, misfit, countsOf, widthOf}
-use Rattle.code.specs.Calls.{readCells, refusal, answer, filled, fieldRead, unsound, numberless, unreadable, generation, holds, left, readRefusal, readReply}
+use Rattle.code.specs.Calls.{readCells, refusal, answer, filled, readFields, fieldRead, unsound, numberless, miscounts, exceeds, countTold, generation, holds, left, readRefusal, readReply}
 use Rattle.code.specs.Numerals.{longer, readSevens, preceded, readNumbers}
 use Rattle.code.specs.Dump.{recordBy, outOfList, broken, found, stepIn, openingAs, opening, stepOn, step, cellsOf, outcome, walkFrom, startOf, walk, rowNumbers, rowsOf, walkLeaves, ascii, spelled, recordLine, lastLine, stopLines, lines, listing}
 
@@ -21,12 +21,12 @@ sample =
 
 -- also `80 00` as a serial, which is not shortest; and the rows of a walk, with a number behind them that stays
 pub sampled :
-    (listing Old sample ≡ ascii "7 3 2 0\n300 1 1 1\n8 1 0 3\n9 refused 4\nrecords 4\n")
+    (listing Old sample ≡ ascii "7 3 2 0\n300 1 1 1\n8 1 0 3\n9 refused 16\nrecords 4\n")
     × (listing Old (0x80 ∷ 0x00 ∷ []) ≡ ascii "stopped 7 at 0\nrecords 0\n")
-    × (walkLeaves Old sample 0 (replicate 41 1) ≡
-    7 ∷ 2 ∷ 3 ∷ 4 ∷ 5 ∷ 1 ∷ 0 ∷ 3 ∷ 2 ∷ 0 ∷
-    300 ∷ 2 ∷ 2 ∷ 20 ∷ 12 ∷ 2 ∷ 0 ∷ 1 ∷ 1 ∷ 1 ∷
-    8 ∷ 2 ∷ 3 ∷ 4 ∷ 19 ∷ 1 ∷ 0 ∷ 1 ∷ 0 ∷ 3 ∷
-    9 ∷ 2 ∷ 2 ∷ 20 ∷ 25 ∷ 2 ∷ 4 ∷ 0 ∷ 0 ∷ 0 ∷ 1 ∷ [])
-unfolding choose fewer least room counts grant written rank digits number plain place wit value listed group groups sound zeros unerased past base fewest carriers told judged read readCells refusal answer filled firstOf rangesOf orderOf outside granted misfit countsOf widthOf fieldRead unsound numberless unreadable generation holds left readRefusal readReply longer readSevens preceded readNumbers recordBy outOfList broken found stepIn openingAs opening stepOn step cellsOf outcome walkFrom startOf walk rowNumbers rowsOf walkLeaves ascii spelled recordLine lastLine stopLines lines listing
+    × (walkLeaves Old sample 0 (replicate 45 1) ≡
+    7 ∷ 2 ∷ 3 ∷ 4 ∷ 5 ∷ 1 ∷ 0 ∷ 3 ∷ 2 ∷ 0 ∷ 0 ∷
+    300 ∷ 2 ∷ 2 ∷ 20 ∷ 12 ∷ 2 ∷ 0 ∷ 1 ∷ 1 ∷ 1 ∷ 0 ∷
+    8 ∷ 2 ∷ 3 ∷ 4 ∷ 19 ∷ 1 ∷ 0 ∷ 1 ∷ 0 ∷ 3 ∷ 0 ∷
+    9 ∷ 2 ∷ 2 ∷ 20 ∷ 25 ∷ 2 ∷ 16 ∷ 1 ∷ 0 ∷ 0 ∷ 0 ∷ 1 ∷ [])
+unfolding choose fewer least room counts grant written rank digits number plain place wit value listed group groups sound zeros unerased past base fewest carriers told judged read readCells refusal answer filled readFields firstOf rangesOf orderOf outside granted misfit countsOf widthOf fieldRead unsound numberless miscounts exceeds countTold generation holds left readRefusal readReply longer readSevens preceded readNumbers recordBy outOfList broken found stepIn openingAs opening stepOn step cellsOf outcome walkFrom startOf walk rowNumbers rowsOf walkLeaves ascii spelled recordLine lastLine stopLines lines listing
 sampled = (refl, refl, refl)

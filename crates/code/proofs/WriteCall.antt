@@ -1,5 +1,5 @@
 -- The write call: test by test as a program comes to them, where a write goes and what it leaves, and that it is refused exactly where the rules make no write.
-use Prim.Native.Nat.{ℕ, zero, suc, _-_, _^_, _≤_, _<_}
+use Prim.Native.Nat.{ℕ, zero, suc, _*_, _-_, _^_, _≤_, _<_}
 use mathlib.Core.Path.{_≡_, refl, sym, _∙_}
 use mathlib.Core.Logic.{inl, inr}
 use mathlib.Core.Bool.{Bool, true, false, true≢false, cond, not, _&&_}
@@ -9,69 +9,79 @@ use native.Mathlib.Decide.{ℕ-discrete}
 use lib.ListN.{length, getD}
 use lib.Arith.{lt-of-le-ne}
 use lib.Dec.{leb, ltb}
-use borrow.Author.Tests.{le-leb, lt-leb, lt-ltb, le-ltb, eq-eqb, ne-eqb}
+use borrow.Author.Tests.{le-leb, lt-leb, lt-ltb, le-ltb, ltb-true, eq-eqb, ne-eqb}
 use Rattle.code.specs.declared.Shape.{Shape}
 use Rattle.code.specs.Shape.{firstOf, rangesOf, orderOf, outside, misfit, granted, countsOf, widthOf}
 use Rattle.code.specs.Layout.{room}
 use Rattle.code.specs.Cells.{opened, sound, stored, turned}
 use Rattle.code.specs.Field.{zeros, past, base, fewest, pattern, Reading, blank, reads, miscounted, beyond, read, erase, cleared, lay, after, Writing, refused, wrote, writeAt, writeOn, write}
 use Rattle.code.specs.Run.{accepted, kept}
-use Rattle.code.specs.Calls.{readCells, storing, writeCells, refusal, answer, passes, leaves, layoutRefusal, fieldRead, fieldWrite, unsound, unreadable, spent, writeRefusal, madeAt, writeReply, writeLeaves}
-use Rattle.code.proofs.Tests.{le-or-lt}
+use Rattle.code.specs.Calls.{readCells, storing, writeCells, refusal, answer, passes, leaves, layoutRefusal, fieldRead, fieldWrite, unsound, generation, miscounts, exceeds, countTold, spent, writeRefusal, madeAt, writeReply, writeLeaves}
+use Rattle.code.proofs.Tests.{le-or-lt, both-true}
 use Rattle.code.proofs.Conditions.{holds-room}
+use Rattle.code.proofs.Cells.{turned-most}
 use Rattle.code.proofs.Groups.{blank-zeros, erase-blank}
 use Rattle.code.proofs.Field.{past-next, past-below, Ready, read-past, blank-read, write-read, write-taken}
 use Rattle.code.proofs.Bytes.{storing-accepted, triedCells}
 use Rattle.code.proofs.LayoutCall.{refusal-some, refused-early, passed-early, range-at, bounded, counts-length, is-layout}
 
--- a refused write: its number alone, and the cells as they were
-abbrev pub Refuses : Shape → ℕ → List ℕ → ℕ → Type 0
-Refuses s x bs k = (writeReply s x bs ≡ k ∷ []) × (writeLeaves s x bs ≡ bs)
+-- a refused write: its number and what it carries, and the cells as they were
+abbrev pub Refuses : Shape → ℕ → List ℕ → List ℕ → Type 0
+Refuses s x bs reply = (writeReply s x bs ≡ reply) × (writeLeaves s x bs ≡ bs)
+
+-- the tests of a write from the fourth on, of cells that read as r
+abbrev lastTests : Shape → ℕ → Reading → List (List ℕ × Bool)
+lastTests s x r =
+    (6 ∷ [], leb (s .v) x) ∷ (15 ∷ generation r ∷ countTold r ∷ [], miscounts r) ∷ (16 ∷ generation r ∷ [], exceeds r) ∷ (5 ∷ [], spent (s .t) r) ∷ []
 
 module _ (s : Shape) (x : ℕ) (bs : List ℕ) where
-  refuses : (k : ℕ) → writeRefusal s x bs ≡ k ∷ [] → Refuses s x bs k
+  refuses : (k : ℕ) (carried : List ℕ) → writeRefusal s x bs ≡ k ∷ carried → Refuses s x bs (k ∷ carried)
   unfolding writeReply writeLeaves answer leaves
-  refuses k q = (rw q, rw q)
+  refuses k carried q = (rw q, rw q)
 
   pub write-some : (k : ℕ) (carried : List ℕ) → writeRefusal s x bs ≡ k ∷ carried → 0 < k
   unfolding writeRefusal
-  write-some k carried q = refusal-some _ (omega arith, (omega arith, (omega arith, (omega arith, (omega arith, (omega arith, tt)))))) k carried q
+  write-some k carried q = refusal-some _ (omega arith, (omega arith, (omega arith, (omega arith, (omega arith, (omega arith, (omega arith, tt))))))) k carried q
 
-  pub write-no-layout : (k : ℕ) → layoutRefusal s 256 ≡ k ∷ [] → Refuses s x bs k
+  pub write-no-layout : (k : ℕ) → layoutRefusal s 256 ≡ k ∷ [] → Refuses s x bs (k ∷ [])
   unfolding layoutRefusal writeRefusal countsOf
-  write-no-layout k q = refuses k (refused-early (outside s 256) (misfit 256 (granted s 256)) k [] _ q)
+  write-no-layout k q = refuses k [] (refused-early (outside s 256) (misfit 256 (granted s 256)) k [] _ q)
 
   module _ (ok : layoutRefusal s 256 ≡ []) where
     -- the tests of a write from the third on
     write-tests : writeRefusal s x bs ≡
-        refusal ((3 ∷ [], unsound s bs) ∷ (6 ∷ [], leb (s .v) x) ∷ (4 ∷ [], unreadable (fieldRead s bs)) ∷ (5 ∷ [], spent (s .t) (fieldRead s bs)) ∷ [])
+        refusal ((3 ∷ [], unsound s bs) ∷ lastTests s x (fieldRead s bs))
     unfolding writeRefusal layoutRefusal countsOf
     write-tests = passed-early (outside s 256) (misfit 256 (granted s 256)) _ ok
 
-    pub write-unsound : sound (orderOf s) (s .m) (widthOf s) bs ≡ false → Refuses s x bs 3
+    pub write-unsound : sound (orderOf s) (s .m) (widthOf s) bs ≡ false → Refuses s x bs (3 ∷ [])
     unfolding refusal unsound
-    write-unsound f = refuses 3 (write-tests ∙ rw f)
+    write-unsound f = refuses 3 [] (write-tests ∙ rw f)
 
     module _ (f : sound (orderOf s) (s .m) (widthOf s) bs ≡ true) where
-      pub write-large : s .v ≤ x → Refuses s x bs 6
+      pub write-large : s .v ≤ x → Refuses s x bs (6 ∷ [])
       unfolding refusal unsound
-      write-large l = refuses 6 (write-tests ∙ rw (f, le-leb (s .v) x l))
+      write-large l = refuses 6 [] (write-tests ∙ rw (f, le-leb (s .v) x l))
 
-      pub write-unread : x < s .v → unreadable (fieldRead s bs) ≡ true → Refuses s x bs 4
-      unfolding refusal unsound
-      write-unread l r = refuses 4 (write-tests ∙ rw (f, lt-leb (s .v) x l, r))
+      pub write-miscounted : (i u : ℕ) → x < s .v → fieldRead s bs ≡ miscounted i u → Refuses s x bs (15 ∷ i ∷ u ∷ [])
+      unfolding refusal unsound generation countTold miscounts
+      write-miscounted i u l q = refuses 15 (i ∷ u ∷ []) (write-tests ∙ rw (f, lt-leb (s .v) x l, q))
 
-      pub write-spent : (i y : ℕ) → x < s .v → fieldRead s bs ≡ reads i y → i ≡ s .t → Refuses s x bs 5
-      unfolding refusal unsound unreadable spent
-      write-spent i y l r q = refuses 5 (write-tests ∙ rw (f, lt-leb (s .v) x l, r, eq-eqb i (s .t) q))
+      pub write-beyond : (i : ℕ) → x < s .v → fieldRead s bs ≡ beyond i → Refuses s x bs (16 ∷ i ∷ [])
+      unfolding refusal unsound generation miscounts exceeds
+      write-beyond i l q = refuses 16 (i ∷ []) (write-tests ∙ rw (f, lt-leb (s .v) x l, q))
+
+      pub write-spent : (i y : ℕ) → x < s .v → fieldRead s bs ≡ reads i y → i ≡ s .t → Refuses s x bs (5 ∷ [])
+      unfolding refusal unsound miscounts exceeds spent
+      write-spent i y l r q = refuses 5 [] (write-tests ∙ rw (f, lt-leb (s .v) x l, r, eq-eqb i (s .t) q))
 
       -- an accepted write: the generation, the wits turned, and the cells of the groups that the rules leave
-      pub write-made : (r : Reading) (n : ℕ) (gs : List ℕ) → x < s .v → fieldRead s bs ≡ r → unreadable r ≡ false → spent (s .t) r ≡ false →
+      pub write-made : (r : Reading) (n : ℕ) (gs : List ℕ) → x < s .v → fieldRead s bs ≡ r → miscounts r ≡ false → exceeds r ≡ false → spent (s .t) r ≡ false →
           write (2 ^ s .m - 1) (firstOf s) (countsOf s) (rangesOf s) x (opened (orderOf s) (s .m) (widthOf s) bs) ≡ wrote n gs →
           (writeReply s x bs ≡ 0 ∷ n ∷ turned (orderOf s) bs (stored (orderOf s) (s .m) gs) ∷ []) × (writeLeaves s x bs ≡ stored (orderOf s) (s .m) gs)
       unfolding refusal unsound fieldWrite writeCells storing writeReply writeLeaves answer leaves madeAt kept widthOf
-      write-made r n gs l q u p w =
-          let z : writeRefusal s x bs ≡ [] = write-tests ∙ rw (f, lt-leb (s .v) x l, q, u, p) in
+      write-made r n gs l q c e p w =
+          let z : writeRefusal s x bs ≡ [] = write-tests ∙ rw (f, lt-leb (s .v) x l, q, c, e, p) in
           (rw (z, f, w), rw (z, f, w))
 
 -- Where a write goes, what room its number has, and what it leaves, on groups.
@@ -137,19 +147,16 @@ module _ (s : Shape) (ok : layoutRefusal s 256 ≡ []) where
   unfolding writeAt
   at-spent x i gs q = rw (le-ltb i (length (countsOf s)) (omega (arith, counts-length s ok)))
 
-  abbrev lastTests : ℕ → Reading → List (List ℕ × Bool)
-  lastTests x r = (6 ∷ [], leb (s .v) x) ∷ (4 ∷ [], unreadable r) ∷ (5 ∷ [], spent (s .t) r) ∷ []
-
   acceptance : (x : ℕ) (gs : List ℕ) (r : Reading) → read full (firstOf s) (countsOf s) (rangesOf s) gs ≡ r →
-      passes (refusal (lastTests x r)) ≡ accepted (writeOn full (firstOf s) (countsOf s) (rangesOf s) x gs r)
-  unfolding refusal passes unreadable spent writeOn accepted
+      passes (refusal (lastTests s x r)) ≡ accepted (writeOn full (firstOf s) (countsOf s) (rangesOf s) x gs r)
+  unfolding refusal passes miscounts exceeds spent writeOn accepted
   acceptance x gs r q = elim (le-or-lt (s .v) x) [
     | inl h ↦ large h r q
     | inr h ↦ small h r q
   ]
     where
       large : s .v ≤ x → (r : Reading) → read full (firstOf s) (countsOf s) (rangesOf s) gs ≡ r →
-          passes (refusal (lastTests x r)) ≡ accepted (writeOn full (firstOf s) (countsOf s) (rangesOf s) x gs r)
+          passes (refusal (lastTests s x r)) ≡ accepted (writeOn full (firstOf s) (countsOf s) (rangesOf s) x gs r)
       large h blank q = rw (le-leb (s .v) x h, at-accepted x 0 gs (omega (arith, bounded s ok .t-low)), le-ltb x (s .v) h)
       large h (reads i y) q = elim (ℕ-discrete i (s .t)) [
         | yes e ↦ rw (le-leb (s .v) x h, at-spent x i gs e)
@@ -159,7 +166,7 @@ module _ (s : Shape) (ok : layoutRefusal s 256 ≡ []) where
       large h (beyond i) q = rw (le-leb (s .v) x h)
 
       small : x < s .v → (r : Reading) → read full (firstOf s) (countsOf s) (rangesOf s) gs ≡ r →
-          passes (refusal (lastTests x r)) ≡ accepted (writeOn full (firstOf s) (countsOf s) (rangesOf s) x gs r)
+          passes (refusal (lastTests s x r)) ≡ accepted (writeOn full (firstOf s) (countsOf s) (rangesOf s) x gs r)
       small h blank q = rw (lt-leb (s .v) x h, at-accepted x 0 gs (omega (arith, bounded s ok .t-low)), lt-ltb x (s .v) h)
       small h (reads i y) q = elim (ℕ-discrete i (s .t)) [
         | yes e ↦ rw (lt-leb (s .v) x h, eq-eqb i (s .t) e, at-spent x i gs e)
@@ -179,7 +186,7 @@ module _ (s : Shape) (ok : layoutRefusal s 256 ≡ []) where
       r : Reading
       r = read full (firstOf s) (countsOf s) (rangesOf s) gs
 
-      go : (b : Bool) → passes (refusal ((3 ∷ [], not b) ∷ lastTests x r)) ≡
+      go : (b : Bool) → passes (refusal ((3 ∷ [], not b) ∷ lastTests s x r)) ≡
           accepted (cond b (storing (orderOf s) (s .m) (writeOn full (firstOf s) (countsOf s) (rangesOf s) x gs r)) refused)
       go false = refl
       go true = acceptance x gs r refl ∙ sym (storing-accepted (orderOf s) (s .m) (writeOn full (firstOf s) (countsOf s) (rangesOf s) x gs r))
@@ -193,3 +200,47 @@ module _ (s : Shape) (ok : layoutRefusal s 256 ≡ []) where
       go [] w q = refl
       go (k ∷ carried) refused q = refl
       go (k ∷ carried) (wrote i bs′) q = absurd (true≢false (sym q))
+
+-- What a write answers is small: no generation beyond the layout's, and no more wits turned than there are.
+module _ (s : Shape) (x : ℕ) where
+  at-most : (gs : List ℕ) (n : ℕ) → madeAt (storing (orderOf s) (s .m) (writeAt (2 ^ s .m - 1) (firstOf s) (countsOf s) (rangesOf s) x gs n)) ≤ length (countsOf s)
+  unfolding madeAt storing writeAt
+  at-most gs n = go (ltb n (length (countsOf s)) && ltb x (getD (rangesOf s) n 0)) refl
+    where
+      go : (b : Bool) → (ltb n (length (countsOf s)) && ltb x (getD (rangesOf s) n 0)) ≡ b →
+          madeAt (storing (orderOf s) (s .m) (cond b (wrote (suc n) (after (2 ^ s .m - 1) (firstOf s) (countsOf s) n x gs)) refused)) ≤ length (countsOf s)
+      go true q = ltb-true n (length (countsOf s)) (both-true _ _ q .0)
+      go false q = omega arith
+
+  made-most : (bs : List ℕ) → madeAt (fieldWrite s x bs) ≤ length (countsOf s)
+  unfolding fieldWrite writeCells write writeOn madeAt storing
+  made-most bs = whole (sound (orderOf s) (s .m) (getD (countsOf s) 0 0) bs)
+    where
+      gs : List ℕ
+      gs = opened (orderOf s) (s .m) (getD (countsOf s) 0 0) bs
+
+      on : (r : Reading) → madeAt (storing (orderOf s) (s .m) (writeOn (2 ^ s .m - 1) (firstOf s) (countsOf s) (rangesOf s) x gs r)) ≤ length (countsOf s)
+      on blank = at-most gs 0
+      on (reads i y) = at-most gs i
+      on (miscounted i u) = omega arith
+      on (beyond i) = omega arith
+
+      whole : (b : Bool) →
+          madeAt (cond b (storing (orderOf s) (s .m) (write (2 ^ s .m - 1) (firstOf s) (countsOf s) (rangesOf s) x gs)) refused) ≤ length (countsOf s)
+      whole true = on (read (2 ^ s .m - 1) (firstOf s) (countsOf s) (rangesOf s) gs)
+      whole false = omega arith
+
+  -- what an accepted write answers
+  pub written-small : (i k : ℕ) (bs : List ℕ) → 0 ∷ i ∷ k ∷ [] ≡ writeReply s x bs → (i ≤ length (countsOf s)) × (k ≤ 8 * length bs)
+  unfolding writeReply answer
+  written-small i k bs e = go (writeRefusal s x bs) refl e
+    where
+      n : ℕ
+      n = turned (orderOf s) bs (kept bs (fieldWrite s x bs))
+
+      go : (r : List ℕ) → writeRefusal s x bs ≡ r → 0 ∷ i ∷ k ∷ [] ≡ answer r (madeAt (fieldWrite s x bs) ∷ n ∷ []) → (i ≤ length (countsOf s)) × (k ≤ 8 * length bs)
+      go [] q e =
+          let a : i ≡ madeAt (fieldWrite s x bs) = cc in
+          let b : k ≡ n = cc in
+          (rw a (made-most bs), rw b (turned-most (orderOf s) bs (kept bs (fieldWrite s x bs))))
+      go (j ∷ carried) q e = let z : 0 ≡ j = cc in absurd (omega (arith, write-some s x bs j carried q))

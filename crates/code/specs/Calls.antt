@@ -48,6 +48,14 @@ leaves (k ∷ carried) after before = before
 unfoldable pub filled : ℕ → List ℕ → List ℕ
 filled n reply = take n (reply ++ replicate n 0)
 
+-- docs/DECISIONS.md, 90: the reply to a reading in five fields: refusal, generation, number, writes left, and the unerased count of a refusal
+unfoldable pub readFields : List ℕ → List ℕ
+readFields reply = cond (eqb (getD reply 0 0) 0) (filled 5 reply) (getD reply 0 0 ∷ getD reply 1 0 ∷ 0 ∷ 0 ∷ getD reply 2 0 ∷ [])
+
+-- the same entry: the reply to a write in four: refusal, generation, turned, and the unerased count of a refusal
+unfoldable pub writeFields : List ℕ → List ℕ
+writeFields reply = cond (eqb (getD reply 0 0) 0) (filled 4 reply) (getD reply 0 0 ∷ getD reply 1 0 ∷ 0 ∷ getD reply 2 0 ∷ [])
+
 -- the numbers of a layout's struct: its refusal and sixteen counts, for t is at most 16
 abbrev pub layoutFields : ℕ
 layoutFields = 17
@@ -72,12 +80,26 @@ fieldWrite s x bytes = writeCells (orderOf s) (s .m) (firstOf s) (countsOf s) (r
 unfoldable pub unsound : Shape → List ℕ → Bool
 unsound s bytes = not (sound (orderOf s) (s .m) (widthOf s) bytes)
 
--- "the cells have no reading"
-unfoldable pub unreadable : Reading → Bool
-unreadable blank = false
-unreadable (reads i x) = false
-unreadable (miscounted i u) = true
-unreadable (beyond i) = true
+-- 02, §6: "wrong number of unerased groups"
+unfoldable pub miscounts : Reading → Bool
+miscounts blank = false
+miscounts (reads i x) = false
+miscounts (miscounted i u) = true
+miscounts (beyond i) = false
+
+-- 02, §6: "number not below the range"
+unfoldable pub exceeds : Reading → Bool
+exceeds blank = false
+exceeds (reads i x) = false
+exceeds (miscounted i u) = false
+exceeds (beyond i) = true
+
+-- 02, §6: "the first also tells the unerased count"
+unfoldable pub countTold : Reading → ℕ
+countTold blank = 0
+countTold (reads i x) = 0
+countTold (miscounted i u) = u
+countTold (beyond i) = 0
 
 -- "generation is already t"
 unfoldable pub spent : ℕ → Reading → Bool
@@ -114,28 +136,31 @@ numberless s (reads i x) = false
 numberless s (miscounted i u) = false
 numberless s (beyond i) = false
 
--- the table's rows for read, in its order, with 02's 11 "after 3": 1, 2, 3, 11, 4
+-- the table's rows for read, in its order, with 02's 11 "after 3" and then 15, 16: 1, 2, 3, 11, 15, 16;
+-- "Both carry the generation that the zero count points to"
 unfoldable pub readRefusal : Shape → List ℕ → List ℕ
-readRefusal s bytes = refusal (
+readRefusal s bytes = let r = fieldRead s bytes in refusal (
     (1 ∷ [], outside s 256) ∷
     (2 ∷ [], misfit 256 (countsOf s)) ∷
     (3 ∷ [], unsound s bytes) ∷
-    (11 ∷ [], numberless s (fieldRead s bytes)) ∷
-    (4 ∷ [], unreadable (fieldRead s bytes)) ∷ [])
+    (11 ∷ [], numberless s r) ∷
+    (15 ∷ generation r ∷ countTold r ∷ [], miscounts r) ∷
+    (16 ∷ generation r ∷ [], exceeds r) ∷ [])
 
 -- the call's answer: generation, number and writes left
 unfoldable pub readReply : Shape → List ℕ → List ℕ
 readReply s bytes = let r = fieldRead s bytes in answer (readRefusal s bytes) (generation r ∷ holds r ∷ left (s .t) r ∷ [])
 
--- the table's rows for write, in its order: 1, 2, 3, 6, 4, 5
+-- the table's rows for write, in its order, with 02's 15, 16: 1, 2, 3, 6, 15, 16, 5
 unfoldable pub writeRefusal : Shape → ℕ → List ℕ → List ℕ
-writeRefusal s x bytes = refusal (
+writeRefusal s x bytes = let r = fieldRead s bytes in refusal (
     (1 ∷ [], outside s 256) ∷
     (2 ∷ [], misfit 256 (countsOf s)) ∷
     (3 ∷ [], unsound s bytes) ∷
     (6 ∷ [], leb (s .v) x) ∷
-    (4 ∷ [], unreadable (fieldRead s bytes)) ∷
-    (5 ∷ [], spent (s .t) (fieldRead s bytes)) ∷ [])
+    (15 ∷ generation r ∷ countTold r ∷ [], miscounts r) ∷
+    (16 ∷ generation r ∷ [], exceeds r) ∷
+    (5 ∷ [], spent (s .t) r) ∷ [])
 
 -- 01, Writing: the generation "written at"
 unfoldable pub madeAt : Writing → ℕ

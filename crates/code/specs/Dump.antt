@@ -11,7 +11,7 @@ use Rattle.code.specs.declared.Kind.the-variants.{Old, New}
 use Rattle.code.specs.declared.Record.{Record}
 use Rattle.code.specs.declared.Shape.{Shape}
 use Rattle.code.specs.Shape.{shaped, outside, misfit, countsOf}
-use Rattle.code.specs.Calls.{refusal, answer, leaves, filled, unsound, readReply}
+use Rattle.code.specs.Calls.{refusal, answer, leaves, readFields, unsound, readReply}
 use Rattle.code.specs.Numerals.{numeralsOf, Numbers, cut, numbers, readNumbers}
 use Rattle.code.specs.LayoutList.{Listed, unlisted, listedShape, Layouts, brokenList, layouts, layoutList}
 
@@ -197,13 +197,13 @@ rowNumbers New r = recordNumbers r
 
 -- the numbers of a row
 abbrev pub rowLength : Kind → ℕ
-rowLength Old = 10
-rowLength New = 12
+rowLength Old = 11
+rowLength New = 13
 
--- the same entry: the walk into lent rows, 0 where the reply to reading lacks a number
+-- the same entry: the walk into lent rows, each with the reply to reading in its five fields
 unfoldable pub rowsOf : Kind → List ℕ → List Step → List ℕ
 rowsOf kind bytes [] = []
-rowsOf kind bytes (taken r ∷ steps) = (rowNumbers kind r ++ filled 4 (outcome bytes r)) ++ rowsOf kind bytes steps
+rowsOf kind bytes (taken r ∷ steps) = (rowNumbers kind r ++ readFields (outcome bytes r)) ++ rowsOf kind bytes steps
 rowsOf kind bytes (ended ∷ steps) = []
 rowsOf kind bytes (stopped k carried ∷ steps) = []
 

@@ -50,11 +50,11 @@ unfoldable pub stopReply : List (List ℕ) → List ℕ
 stopReply [] = []
 stopReply (reply ∷ replies) = cond (eqb (getD reply 0 0) 0) (stopReply replies) reply
 
--- the answer: the refusal, whether a field was refused, which one, counted from 0, and how many were written; their generations; their turned
--- counts. 0 stands behind these
+-- the answer: the refusal, whether a field was refused, which one, counted from 0, how many were written, and the generation and the unerased count
+-- that the refusal carries; the generations of the fields written; their turned counts. 0 stands behind these
 unfoldable pub manyNumbers : ℕ → List ℕ → List (List ℕ) → List (List ℕ)
 manyNumbers stopped refused made =
-    (getD refused 0 0 ∷ stopped ∷ (stopped * length made) ∷ length made ∷ []) ∷
+    (getD refused 0 0 ∷ stopped ∷ (stopped * length made) ∷ length made ∷ getD refused 1 0 ∷ getD refused 2 0 ∷ []) ∷
     filled numbersMost (map (λ reply. getD reply 1 0) made) ∷
     filled numbersMost (map (λ reply. getD reply 2 0) made) ∷ []
 

@@ -10,12 +10,12 @@ use lib.Seq.{length-take-le}
 use Rattle.code.specs.declared.Kind.{Kind}
 use Rattle.code.specs.declared.Kind.the-variants.{Old, New}
 use Rattle.code.specs.declared.Record as Declared
-use Rattle.code.specs.Calls.{filled}
+use Rattle.code.specs.Calls.{readFields}
 use Rattle.code.specs.Dump as Code
 use Rattle.code.specs.Dump.{taken, ended, stopped, barred, entered, behindList, openingAs, opening, openedBy, openReply, startOf, step, outcome, stepValues, stepReply, recordNumbers, walkFrom, rowNumbers, rowLength, rowSteps}
 use Rattle.code.specs.Dump.{rowsOf, closing, walkOn, walkReply, walkLeaves}
 use Rattle.code.specs.Numerals.{readNumbers}
-use Rattle.code.proofs.LayoutCall.{filled-length}
+use Rattle.code.proofs.LayoutCall.{read-fields-length}
 use Rattle.code.proofs.Records.{open-oversize, open-short, step-barred, step-entered, step-ended, step-inside}
 use Rattle.code.proofs.Dumps.{entered-within}
 use Rattle.code.proofs.Steps.{Barring, open-barring, told-record, told-ended, told-stopped}
@@ -143,13 +143,13 @@ no-rows kind bytes at k carried e zero = refl
 no-rows kind bytes at k carried e (suc fuel) = rw (walk-stopped kind bytes fuel at k carried (step-barred kind bytes at k carried e))
 
 -- the numbers of a row are as many as it has
-pub row-many : (kind : Kind) (r : Declared.Record) (reading : List ℕ) → length (rowNumbers kind r ++ filled 4 reading) ≡ rowLength kind
+pub row-many : (kind : Kind) (r : Declared.Record) (reading : List ℕ) → length (rowNumbers kind r ++ readFields reading) ≡ rowLength kind
 unfolding rowNumbers recordNumbers
-row-many Old r reading = omega (arith, filled-length 4 reading)
-row-many New r reading = omega (arith, filled-length 4 reading)
+row-many Old r reading = omega (arith, read-fields-length reading)
+row-many New r reading = omega (arith, read-fields-length reading)
 
--- a row has ten to twelve numbers
-pub row-some : (kind : Kind) → (10 ≤ rowLength kind) × (rowLength kind ≤ 12)
+-- a row has eleven to thirteen numbers
+pub row-some : (kind : Kind) → (11 ≤ rowLength kind) × (rowLength kind ≤ 13)
 row-some Old = (omega arith, omega arith)
 row-some New = (omega arith, omega arith)
 
@@ -182,7 +182,7 @@ pub record Walking (kind : Kind) (bytes : List ℕ) (at : ℕ) (before rows : Li
   pub closes : closing at 0 (rowSteps kind bytes at before) ≡ closing next done (walkFrom (length before / rowLength kind - done) kind bytes next)
 
 -- no more rows than their numbers
-pub walking-done : {kind : Kind} {bytes : List ℕ} {at : ℕ} {before rows : List ℕ} {next done place : ℕ} → Walking kind bytes at before rows next done place → 10 * done ≤ length before
+pub walking-done : {kind : Kind} {bytes : List ℕ} {at : ℕ} {before rows : List ℕ} {next done place : ℕ} → Walking kind bytes at before rows next done place → 11 * done ≤ length before
 walking-done {kind = Old} w = omega (arith, w .placed, w .room)
 walking-done {kind = New} w = omega (arith, w .placed, w .room)
 
@@ -230,7 +230,7 @@ module _ {kind : Kind} {bytes : List ℕ} {at : ℕ} {before rows : List ℕ} {n
 
     module _ {s : Step} (gives : stepOf s ≡ stepReply kind bytes next) where
       pub walking-next : {r : Declared.Record} {reading : Reading} {rows′ : List ℕ} {place′ : ℕ} → s ≡ Record r reading →
-          Put rows rows′ place (rowNumbers kind r ++ filled 4 (readingOf reading)) place′ → Walking kind bytes at before rows′ (r .start + r .count) (done + 1) place′
+          Put rows rows′ place (rowNumbers kind r ++ readFields (readingOf reading)) place′ → Walking kind bytes at before rows′ (r .start + r .count) (done + 1) place′
       unfolding rowsOf closing
       walking-next {r} {reading} {rows′} {place′} e p =
           let told = gives-record kind bytes next gives e in
@@ -240,7 +240,7 @@ module _ {kind : Kind} {bytes : List ℕ} {at : ℕ} {before rows : List ℕ} {n
             placed = ends ∙ rw (w .placed) (next-row kind done);
             room = omega arith;
             same = put-length p ∙ w .same;
-            filling = w .filling ++ (rowNumbers kind r ++ filled 4 (readingOf reading));
+            filling = w .filling ++ (rowNumbers kind r ++ readFields (readingOf reading));
             stored = put-then (w .stored) p;
             made = rw (add-one done, append-assoc) (rw (more, turn, told .1) at (w .made));
             closes = rw (add-one done) (rw (more, turn) at (w .closes));

@@ -5,6 +5,7 @@ use code::Kind;
 use code::Record;
 use code::Shape;
 use layout::Plan;
+use reading::ReadFields;
 use reading::Reading;
 use records::Head;
 use records::list::LayoutList;
@@ -14,11 +15,11 @@ ghost use mathlib.Core.List.{[], _∷_, _++_};
 ghost use Prim.Native.Nat.{_+_, _≤_};
 ghost use lib.ListN.{length, take, replicate};
 ghost use Rattle.code.specs.declared.Kind.the-variants.{Old, New};
-ghost use Rattle.code.specs.Calls.{filled};
+ghost use Rattle.code.specs.Calls.{readFields};
 ghost use Rattle.code.specs.Dump.{openReply, step, taken, stepValues, stepReply, rowNumbers, rowLength, walkReply, walkLeaves};
 ghost use Rattle.storing.specs.Put.{Put};
 ghost use Rattle.layout.specs.Plan.{Planned};
-ghost use Rattle.reading.specs.Answers.{readingOf};
+ghost use Rattle.reading.specs.Answers.{readFieldsOf, readingOf};
 ghost use Rattle.dump.specs.Answers.{openedReply, locatedOf, stepOf, Opens, Ready, walkedOf, haltedBy};
 
 // The most bytes of a dump.
@@ -260,14 +261,14 @@ fn pause_walk(next: u64, rows: u64, ended: u64) -> Walked
 }
 
 // The most numbers of a row.
-const ROW_MOST: usize = 12;
+const ROW_MOST: usize = 13;
 
 // The numbers of a row.
 pub fn row_length(kind: Kind) -> usize
     ensures { λ r. ⌜ r ≡ rowLength kind ⌝ }
 {
     match kind {
-        Kind::Old => 10,
+        Kind::Old => 11,
         Kind::New => ROW_MOST,
     }
 }
@@ -277,9 +278,9 @@ struct Row {
     numbers: [u64; ROW_MOST],
 }
 
-// The rows of both kinds, by the numbers of the reading, 0 where that lacks one.
-fn old_row(record: Record, refused: u64, generation: u64, number: u64, left: u64) -> Row
-    ensures { λ r. ⌜ take 10 (r .numbers) ≡ rowNumbers Old «record» ++ (refused ∷ generation ∷ number ∷ left ∷ []) ⌝ }
+// The rows of both kinds, with the numbers of the reading.
+fn old_row(record: Record, told: ReadFields) -> Row
+    ensures { λ r. ⌜ take 11 (r .numbers) ≡ rowNumbers Old «record» ++ readFieldsOf told ⌝ }
 {
     let s = record.shape;
     let start = record.start as u64;
@@ -291,18 +292,19 @@ fn old_row(record: Record, refused: u64, generation: u64, number: u64, left: u64
         s.v,
         start,
         count,
-        refused,
-        generation,
-        number,
-        left,
+        told.refusal,
+        told.generation,
+        told.number,
+        told.left,
+        told.unerased,
         0,
         0,
     ];
     Row { numbers }
 }
 
-fn new_row(record: Record, refused: u64, generation: u64, number: u64, left: u64) -> Row
-    ensures { λ r. ⌜ r .numbers ≡ rowNumbers New «record» ++ (refused ∷ generation ∷ number ∷ left ∷ []) ⌝ }
+fn new_row(record: Record, told: ReadFields) -> Row
+    ensures { λ r. ⌜ r .numbers ≡ rowNumbers New «record» ++ readFieldsOf told ⌝ }
 {
     let s = record.shape;
     let start = record.start as u64;
@@ -316,45 +318,28 @@ fn new_row(record: Record, refused: u64, generation: u64, number: u64, left: u64
         s.v,
         start,
         count,
-        refused,
-        generation,
-        number,
-        left,
+        told.refusal,
+        told.generation,
+        told.number,
+        told.left,
+        told.unerased,
     ];
     Row { numbers }
 }
 
-fn fill_row(
-    kind: Kind,
-    record: Record,
-    refused: u64,
-    generation: u64,
-    number: u64,
-    left: u64,
-) -> Row
-    ensures { λ r. ⌜ take (rowLength kind) (r .numbers) ≡ rowNumbers kind «record» ++ (refused ∷ generation ∷ number ∷ left ∷ []) ⌝ }
-{
-    match kind {
-        Kind::Old => old_row(record, refused, generation, number, left),
-        Kind::New => new_row(record, refused, generation, number, left),
-    }
-}
-
 fn make_row(kind: Kind, record: Record, outcome: Reading) -> Row
-    ensures { λ r. ⌜ take (rowLength kind) (r .numbers) ≡ rowNumbers kind «record» ++ filled 4 (readingOf outcome) ⌝ }
+    ensures { λ r. ⌜ take (rowLength kind) (r .numbers) ≡ rowNumbers kind «record» ++ readFields (readingOf outcome) ⌝ }
 {
-    match outcome {
-        Reading::Read {
-            generation,
-            number,
-            left,
-        } => fill_row(kind, record, 0, generation, number, left),
-        Reading::Refused(refusal) => fill_row(kind, record, refusal, 0, 0, 0),
+    let told = reading::flat(outcome);
+    match kind {
+        Kind::Old => old_row(record, told),
+        Kind::New => new_row(record, told),
     }
 }
 
+// Stores a row at a place, and answers the place behind it.
 fn put_row(rows: &mut [u64], place: usize, row: Row, width: usize) -> usize
-    requires { ⌜ (width ≤ 12) × (place + width ≤ length (now rows)) ⌝ }
+    requires { ⌜ (width ≤ 13) × (place + width ≤ length (now rows)) ⌝ }
     ensures { λ r. ⌜ Put (now (rows .entry)) (now (rows .exit)) place (take width (row .numbers)) r ⌝ }
 {
     let numbers = row.numbers;

@@ -7,7 +7,7 @@ use lib.ListN.{length, replicate}
 use borrow.Author.Tests.{lt-ltb, ne-eqb}
 use Rattle.code.specs.declared.Kind.{Kind}
 use Rattle.code.specs.declared.Record.{Record}
-use Rattle.code.specs.Calls.{filled}
+use Rattle.code.specs.Calls.{filled, readFields}
 use Rattle.code.specs.Dump.{Step, taken, ended, stopped, step, recordNumbers, stepValues, stepReply}
 use Rattle.code.proofs.Steps.{Refusing, step-refusing}
 use Rattle.code.proofs.Walk.{step-forward}
@@ -17,17 +17,17 @@ use Rattle.dump.specs.declared.Halt.the-variants.{Malformed, Oversize}
 use Rattle.gorvlime.specs.Fields.{offsetFields, newStepFields, cellsEnd, newFoundFields}
 use Rattle.gorvlime.specs.declared.c.NewStepAnswer.{NewStepAnswer}
 
-pub found-record : (r : Record) (reading fields : List ℕ) → fields ≡ filled 4 reading →
+pub found-record : (r : Record) (reading fields : List ℕ) → fields ≡ readFields reading →
     0 ∷ 0 ∷ 1 ∷ r .serial ∷ r .layout ∷ r .shape .form ∷ r .shape .m ∷ r .shape .t ∷ r .shape .v ∷ r .start ∷ r .count ∷ (r .start + r .count) ∷ fields
     ≡ newFoundFields (0 ∷ (recordNumbers r ++ reading))
 unfolding newFoundFields recordNumbers cellsEnd
 found-record r reading fields q = rw (lt-ltb 2 (length (0 ∷ (recordNumbers r ++ reading))) (omega arith), q)
 
-pub found-none : (k : ℕ) → k ∷ 0 ∷ replicate 14 0 ≡ newFoundFields (k ∷ [])
+pub found-none : (k : ℕ) → k ∷ 0 ∷ replicate 15 0 ≡ newFoundFields (k ∷ [])
 unfolding newFoundFields filled
 found-none k = refl
 
-pub found-offset : (k offset : ℕ) → k ∷ offset ∷ replicate 14 0 ≡ newFoundFields (k ∷ offset ∷ [])
+pub found-offset : (k offset : ℕ) → k ∷ offset ∷ replicate 15 0 ≡ newFoundFields (k ∷ offset ∷ [])
 unfolding newFoundFields filled
 found-offset k offset = refl
 

@@ -6,14 +6,16 @@ use mathlib.Core.Path.{_≡_, sym, ap, _∙_}
 use mathlib.Core.List.{List}
 use lib.ListN.{getD, take, drop}
 use Rattle.code.specs.declared.Shape.{Shape}
-use Rattle.code.specs.Calls.{filled, readReply, writeReply, writeLeaves}
+use Rattle.code.specs.Calls.{filled, readFields, writeFields, readReply, writeReply, writeLeaves}
 use Rattle.code.specs.declared.Kind.the-variants.{Old, New}
 use Rattle.code.specs.Dump.{oldExport, newExport, exportReply, exportLeaves, openReply, stepReply}
 use Rattle.code.specs.NewDump.{layoutExportReply, layoutExportLeaves, toNewReply, toNewLeaves, toOldReply, toOldLeaves}
 use Rattle.code.specs.Hex.{hexExportReply, hexExportLeaves, hexImportReply, hexImportLeaves}
-use Rattle.gorvlime.specs.Fields.{readingFields, writingFields, madeFields, openFields, movedFields, offsetFields, stepFields, newStepFields, newFoundFields, foundFields}
-use Rattle.gorvlime.specs.declared.c.ReadAnswer.{ReadAnswer}
-use Rattle.gorvlime.specs.declared.c.WriteAnswer.{WriteAnswer}
+use Rattle.gorvlime.specs.Fields.{madeFields, openFields, movedFields, offsetFields, stepFields, newStepFields, newFoundFields, foundFields}
+use Rattle.reading.specs.declared.ReadFields.{ReadFields}
+use Rattle.reading.specs.Answers.{readFieldsOf}
+use Rattle.writing.specs.declared.WriteFields.{WriteFields}
+use Rattle.writing.specs.Answers.{writeFieldsOf}
 use Rattle.gorvlime.specs.declared.c.MadeAnswer.{MadeAnswer}
 use Rattle.gorvlime.specs.declared.c.OpenAnswer.{OpenAnswer}
 use Rattle.gorvlime.specs.declared.c.MovedAnswer.{MovedAnswer}
@@ -21,11 +23,11 @@ use Rattle.gorvlime.specs.declared.c.StepAnswer.{StepAnswer}
 use Rattle.gorvlime.specs.declared.c.NewStepAnswer.{NewStepAnswer}
 
 -- the struct whose fields are given: an answer is the struct of its own fields
-abbrev readingWith : List ℕ → ReadAnswer
-readingWith xs = record { refusal = getD xs 0 0; generation = getD xs 1 0; number = getD xs 2 0; left = getD xs 3 0 }
+abbrev readingWith : List ℕ → ReadFields
+readingWith xs = record { refusal = getD xs 0 0; generation = getD xs 1 0; number = getD xs 2 0; left = getD xs 3 0; unerased = getD xs 4 0 }
 
-abbrev writingWith : List ℕ → WriteAnswer
-writingWith xs = record { refusal = getD xs 0 0; generation = getD xs 1 0; turned = getD xs 2 0 }
+abbrev writingWith : List ℕ → WriteFields
+writingWith xs = record { refusal = getD xs 0 0; generation = getD xs 1 0; turned = getD xs 2 0; unerased = getD xs 3 0 }
 
 abbrev madeWith : List ℕ → MadeAnswer
 madeWith xs = record { refusal = getD xs 0 0; length = getD xs 1 0 }
@@ -53,6 +55,7 @@ stepWith xs =
       generation = getD xs 11 0;
       number = getD xs 12 0;
       left = getD xs 13 0;
+      unerased = getD xs 14 0;
     }
 
 abbrev newStepWith : List ℕ → NewStepAnswer
@@ -71,15 +74,16 @@ newStepWith xs =
       generation = getD xs 13 0;
       number = getD xs 14 0;
       left = getD xs 15 0;
+      unerased = getD xs 16 0;
     }
 
-pub unique-read : (s : Shape) (cells : List ℕ) (r r′ : ReadAnswer) →
-    readingFields r ≡ filled 4 (readReply s cells) → readingFields r′ ≡ filled 4 (readReply s cells) → r ≡ r′
+pub unique-read : (s : Shape) (cells : List ℕ) (r r′ : ReadFields) →
+    readFieldsOf r ≡ readFields (readReply s cells) → readFieldsOf r′ ≡ readFields (readReply s cells) → r ≡ r′
 unique-read s cells r r′ p p′ = ap readingWith (p ∙ sym p′)
 
-pub unique-write : (s : Shape) (x : ℕ) (cells after after′ : List ℕ) (r r′ : WriteAnswer) →
-    writingFields r ≡ filled 3 (writeReply s x cells) → after ≡ writeLeaves s x cells →
-    writingFields r′ ≡ filled 3 (writeReply s x cells) → after′ ≡ writeLeaves s x cells → (r ≡ r′) × (after ≡ after′)
+pub unique-write : (s : Shape) (x : ℕ) (cells after after′ : List ℕ) (r r′ : WriteFields) →
+    writeFieldsOf r ≡ writeFields (writeReply s x cells) → after ≡ writeLeaves s x cells →
+    writeFieldsOf r′ ≡ writeFields (writeReply s x cells) → after′ ≡ writeLeaves s x cells → (r ≡ r′) × (after ≡ after′)
 unique-write s x cells after after′ r r′ p l p′ l′ = (ap writingWith (p ∙ sym p′), l ∙ sym l′)
 
 made-alike : (reply leaves after after′ : List ℕ) (r r′ : MadeAnswer) → madeFields r ≡ reply → after ≡ leaves → madeFields r′ ≡ reply → after′ ≡ leaves →

@@ -4,20 +4,12 @@ use mathlib.Core.Bool.{cond}
 use mathlib.Core.List.{List, [], _∷_, _++_}
 use lib.Dec.{ltb, eqb}
 use lib.ListN.{length, getD, take, drop}
-use Rattle.code.specs.Calls.{filled}
-use Rattle.gorvlime.specs.declared.c.ReadAnswer.{ReadAnswer}
-use Rattle.gorvlime.specs.declared.c.WriteAnswer.{WriteAnswer}
+use Rattle.code.specs.Calls.{filled, readFields}
 use Rattle.gorvlime.specs.declared.c.MadeAnswer.{MadeAnswer}
 use Rattle.gorvlime.specs.declared.c.OpenAnswer.{OpenAnswer}
 use Rattle.gorvlime.specs.declared.c.MovedAnswer.{MovedAnswer}
 use Rattle.gorvlime.specs.declared.c.StepAnswer.{StepAnswer}
 use Rattle.gorvlime.specs.declared.c.NewStepAnswer.{NewStepAnswer}
-
-abbrev pub readingFields : ReadAnswer → List ℕ
-readingFields r = r .refusal ∷ r .generation ∷ r .number ∷ r .left ∷ []
-
-abbrev pub writingFields : WriteAnswer → List ℕ
-writingFields r = r .refusal ∷ r .generation ∷ r .turned ∷ []
 
 abbrev pub madeFields : MadeAnswer → List ℕ
 madeFields r = r .refusal ∷ r .length ∷ []
@@ -35,22 +27,22 @@ offsetFields n reply = filled n (cond (eqb (getD reply 0 0) 0) (0 ∷ 0 ∷ drop
 abbrev pub newStepFields : NewStepAnswer → List ℕ
 newStepFields r =
     r .refusal ∷ r .offset ∷ r .records ∷ r .serial ∷ r .layout ∷ r .shape .form ∷ r .shape .m ∷ r .shape .t ∷ r .shape .v ∷ r .start ∷ r .length ∷ r .next
-    ∷ r .refused ∷ r .generation ∷ r .number ∷ r .left ∷ []
+    ∷ r .refused ∷ r .generation ∷ r .number ∷ r .left ∷ r .unerased ∷ []
 
 abbrev pub stepFields : StepAnswer → List ℕ
 stepFields r =
     r .refusal ∷ r .offset ∷ r .records ∷ r .serial ∷ r .m ∷ r .t ∷ r .v ∷ r .start ∷ r .length ∷ r .next
-    ∷ r .refused ∷ r .generation ∷ r .number ∷ r .left ∷ []
+    ∷ r .refused ∷ r .generation ∷ r .number ∷ r .left ∷ r .unerased ∷ []
 
 -- where the cells of a step's record end, by its reply
 unfoldable pub cellsEnd : List ℕ → ℕ
 cellsEnd reply = getD reply 7 0 + getD reply 8 0
 
--- the sixteen fields of the reply to a step of a new dump: a record's are 0, 0, 1, its serial, its layout's number, form, m, t, v, where its cells start and how
--- many they are, where they end, and its reading in four
+-- the seventeen fields of the reply to a step of a new dump: a record's are 0, 0, 1, its serial, its layout's number, form, m, t, v, where its cells start and how
+-- many they are, where they end, and its reading in five
 unfoldable pub newFoundFields : List ℕ → List ℕ
 newFoundFields reply =
-    cond (ltb 2 (length reply)) (0 ∷ 0 ∷ 1 ∷ (take 8 (drop 1 reply) ++ (cellsEnd reply ∷ filled 4 (drop 9 reply)))) (filled 16 reply)
+    cond (ltb 2 (length reply)) (0 ∷ 0 ∷ 1 ∷ (take 8 (drop 1 reply) ++ (cellsEnd reply ∷ readFields (drop 9 reply)))) (filled 17 reply)
 
 -- of an old dump all but the layout's number and the form
 unfoldable pub foundFields : List ℕ → List ℕ

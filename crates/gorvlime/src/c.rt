@@ -3,10 +3,10 @@ use code::Shape;
 use dump::Halt;
 ghost use mathlib.Core.Path.{_≡_};
 ghost use mathlib.Core.List.{_∷_, _++_};
-ghost use Rattle.code.specs.Calls.{filled, layoutFields, layoutReply, readReply, writeReply, writeLeaves};
+ghost use Rattle.code.specs.Calls.{filled, readFields, writeFields, layoutFields, layoutReply, readReply, writeReply, writeLeaves};
 ghost use Rattle.code.specs.Many.{manyReply, manyLeaves};
-ghost use Rattle.reading.specs.Answers.{readingOf};
-ghost use Rattle.writing.specs.Answers.{writingOf};
+ghost use Rattle.reading.specs.Answers.{readFieldsOf};
+ghost use Rattle.writing.specs.Answers.{writeFieldsOf};
 ghost use Rattle.many.specs.Answers.{manyOf};
 ghost use Prim.Native.Nat.{_^_, _<_};
 ghost use lib.ListN.{take, drop, replicate};
@@ -17,23 +17,8 @@ ghost use Rattle.code.specs.Hex.{hexExportReply, hexExportLeaves, hexImportRepl
 ghost use Rattle.dump.specs.Answers.{haltOf, openedReply, stepOf, walkedOf};
 ghost use Rattle.moves.specs.Answers.{movedOf};
 ghost use Rattle.storing.specs.Answers.{madeOf};
-ghost use Rattle.gorvlime.specs.Fields.{readingFields, writingFields, madeFields, openFields, movedFields, offsetFields, stepFields, newStepFields};
+ghost use Rattle.gorvlime.specs.Fields.{madeFields, openFields, movedFields, offsetFields, stepFields, newStepFields};
 ghost use Rattle.gorvlime.specs.Fields.{cellsEnd, newFoundFields, foundFields};
-
-#[repr(C)]
-pub struct ReadAnswer {
-    pub refusal: u64,
-    pub generation: u64,
-    pub number: u64,
-    pub left: u64,
-}
-
-#[repr(C)]
-pub struct WriteAnswer {
-    pub refusal: u64,
-    pub generation: u64,
-    pub turned: u64,
-}
 
 #[no_mangle]
 pub extern "C" fn gorvlime_layout(s: Shape, g: u64) -> layout::Layout
@@ -42,59 +27,19 @@ pub extern "C" fn gorvlime_layout(s: Shape, g: u64) -> layout::Layout
     crate::lay_out(s, g)
 }
 
-fn flat_reading(a: reading::Reading) -> ReadAnswer
-    ensures { λ r. ⌜ readingFields r ≡ filled 4 (readingOf a) ⌝ }
+#[no_mangle]
+pub extern "C" fn gorvlime_read(s: Shape, cells: &[u8]) -> reading::ReadFields
+    ensures { λ r. ⌜ readFieldsOf r ≡ readFields (readReply s (now (cells .entry))) ⌝ }
 {
-    match a {
-        reading::Reading::Read {
-            generation,
-            number,
-            left,
-        } => ReadAnswer {
-            refusal: 0,
-            generation,
-            number,
-            left,
-        },
-        reading::Reading::Refused(k) => ReadAnswer {
-            refusal: k,
-            generation: 0,
-            number: 0,
-            left: 0,
-        },
-    }
+    reading::flat(crate::read(s, cells))
 }
 
 #[no_mangle]
-pub extern "C" fn gorvlime_read(s: Shape, cells: &[u8]) -> ReadAnswer
-    ensures { λ r. ⌜ readingFields r ≡ filled 4 (readReply s (now (cells .entry))) ⌝ }
-{
-    flat_reading(crate::read(s, cells))
-}
-
-fn flat_writing(a: writing::Writing) -> WriteAnswer
-    ensures { λ r. ⌜ writingFields r ≡ filled 3 (writingOf a) ⌝ }
-{
-    match a {
-        writing::Writing::Written { generation, turned } => WriteAnswer {
-            refusal: 0,
-            generation,
-            turned,
-        },
-        writing::Writing::Refused(k) => WriteAnswer {
-            refusal: k,
-            generation: 0,
-            turned: 0,
-        },
-    }
-}
-
-#[no_mangle]
-pub extern "C" fn gorvlime_write(s: Shape, cells: &mut [u8], number: u64) -> WriteAnswer
-    ensures { λ r. ⌜ writingFields r ≡ filled 3 (writeReply s number (now (cells .entry))) ⌝ }
+pub extern "C" fn gorvlime_write(s: Shape, cells: &mut [u8], number: u64) -> writing::WriteFields
+    ensures { λ r. ⌜ writeFieldsOf r ≡ writeFields (writeReply s number (now (cells .entry))) ⌝ }
     ensures { λ r. ⌜ now (cells .exit) ≡ writeLeaves s number (now (cells .entry)) ⌝ }
 {
-    flat_writing(crate::write(s, cells, number))
+    writing::flat(crate::write(s, cells, number))
 }
 
 #[no_mangle]
@@ -157,6 +102,7 @@ pub struct StepAnswer {
     pub generation: u64,
     pub number: u64,
     pub left: u64,
+    pub unerased: u64,
 }
 
 #[repr(C)]
@@ -174,11 +120,12 @@ pub struct NewStepAnswer {
     pub generation: u64,
     pub number: u64,
     pub left: u64,
+    pub unerased: u64,
 }
 
 // A step that gives no record.
 fn no_record(refusal: u64, offset: u64) -> NewStepAnswer
-    ensures { λ r. ⌜ newStepFields r ≡ refusal ∷ offset ∷ replicate 14 0 ⌝ }
+    ensures { λ r. ⌜ newStepFields r ≡ refusal ∷ offset ∷ replicate 15 0 ⌝ }
 {
     let shape = Shape {
         form: 0,
@@ -200,6 +147,7 @@ fn no_record(refusal: u64, offset: u64) -> NewStepAnswer
         generation: 0,
         number: 0,
         left: 0,
+        unerased: 0,
     }
 }
 
@@ -218,7 +166,7 @@ fn flat_step(a: dump::Step) -> NewStepAnswer
 {
     match a {
         dump::Step::Record { record, outcome } => {
-            let o = flat_reading(outcome);
+            let o = reading::flat(outcome);
             let shape = record.shape;
             NewStepAnswer {
                 refusal: 0,
@@ -234,6 +182,7 @@ fn flat_step(a: dump::Step) -> NewStepAnswer
                 generation: o.generation,
                 number: o.number,
                 left: o.left,
+                unerased: o.unerased,
             }
         }
         dump::Step::End => no_record(0, 0),
@@ -261,6 +210,7 @@ fn without_layout(a: NewStepAnswer) -> StepAnswer
         generation: a.generation,
         number: a.number,
         left: a.left,
+        unerased: a.unerased,
     }
 }
 

@@ -2,18 +2,19 @@
 use Prim.Native.Nat.{ℕ, _+_, _-_, _≤_, _<_}
 use mathlib.Core.Path.{_≡_, refl, _∙_}
 use mathlib.Core.Bool.{false, cond}
-use mathlib.Core.List.{List, [], _++_, append-nil, append-assoc}
+use mathlib.Core.List.{List, [], _∷_, _++_, append-nil, append-assoc}
 use native.Mathlib.Omega.{arith}
 use native.Mathlib.Numerals.{add-one}
-use lib.ListN.{length, take, drop}
+use lib.ListN.{length, getD, take, drop}
 use lib.Seq.{take-at}
 use Rattle.code.specs.declared.Kind.{Kind}
 use Rattle.code.specs.declared.Record as Declared
+use borrow.Author.Tests.{ne-eqb}
 use Rattle.code.specs.Dump.{cellsOf, outcome, stepReply, recordLine, lastLine, lines, textFrom}
 use Rattle.code.proofs.Tests.{clash, same-test}
 use Rattle.code.proofs.ReadCall.{read-refusing}
 use Rattle.code.proofs.Walk.{walk-ended, walk-stopped, onward-taken}
-use Rattle.reading.specs.Answers.{readingOf}
+use Rattle.reading.specs.Answers.{refusalOf, readingOf}
 use Rattle.reading.specs.declared.Reading.{Reading}
 use Rattle.storing.specs.Put.{Put}
 use Rattle.storing.proofs.Put.{put-none, put-then, put-length, put-pastes}
@@ -21,12 +22,27 @@ use Rattle.text.specs.Within.{PutWithin, closingLine}
 use Rattle.text.proofs.Laws.{wider}
 use Rattle.dump.specs.Answers.{haltNumber, haltCarries, stepOf}
 use Rattle.dump.specs.declared.Halt.{Halt}
+use Rattle.reading.specs.declared.Refusal.{Refusal}
+use Rattle.reading.specs.declared.Refusal.the-variants.{Plain, Miscounted, Beyond}
 use Rattle.dump.specs.declared.Step.{Step}
 use Rattle.dump.specs.declared.Step.the-variants.{Record, End, Stop}
 use Rattle.dump.proofs.Walking.{gives-record, gives-end, gives-stop, record-further}
 use Rattle.listing.specs.Listing.{linesMost, Refusing, haltLines, textLeft, Standing, GoesOn, Closed, LinesTold, Fills}
 use Rattle.listing.specs.declared.Listing.{Listing}
 use Rattle.listing.specs.declared.Told.{Told}
+
+-- the line of a refusal has its number, and nothing of what it carries
+pub refused-line : (serial n : ℕ) (k : Refusal) → n ≡ getD (refusalOf k) 0 0 → Refusing (refusalOf k) →
+    (0 < n) × (recordLine serial (n ∷ []) ≡ recordLine serial (refusalOf k))
+unfolding recordLine
+refused-line serial n k e refusing =
+    let some : 0 < n = rw e (go k refusing) in
+    (some, rw (← e, ne-eqb n 0 (λ z. omega arith)))
+  where
+    go : (k : Refusal) → Refusing (refusalOf k) → 0 < getD (refusalOf k) 0 0
+    go (Plain k) refusing = refusing k refl
+    go (Miscounted i u) refusing = omega arith
+    go (Beyond i) refusing = omega arith
 
 module _ (kind : Kind) (bytes : List ℕ) (at : ℕ) {s : Step} (gives : stepOf s ≡ stepReply kind bytes at) where
   module _ {r : Declared.Record} {reading : Reading} (e : s ≡ Record r reading) where

@@ -76,7 +76,8 @@ fn tell_outcome(out: &mut [u8], at: usize, serial: u64, outcome: Reading, listin
             Told { listing, end }
         }
         Reading::Refused(refusal) => {
-            let end = text::put_refusal_line(out, at, serial, refusal);
+            let told = reading::flat_refusal(refusal);
+            let end = text::put_refusal_line(out, at, serial, told.number);
             Told { listing, end }
         }
     }

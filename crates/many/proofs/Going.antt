@@ -7,13 +7,19 @@ use native.Mathlib.Omega.{arith}
 use native.Mathlib.Nat.{zero-mul, mul-le-mul}
 use native.Mathlib.Numerals.{add-one}
 use lib.ListN.{length, getD, take, drop, set, replicate, length-append, length-map, length-drop, length-replicate, replicate-append-replicate, drop-of-length-le, take-append-drop}
-use lib.Seq.{take-at, drop-at, drop-cons, take-append-add, set-append-seam}
+use lib.Seq.{take-at, drop-at, drop-cons, take-append-add, set-append-seam, take-set-le, take-set-lt, drop-set-add, drop-set-lt}
 use lib.Dec.{eqb}
 use borrow.Author.Tests.{ne-eqb}
 use Rattle.code.specs.declared.Shape.{Shape}
 use Rattle.code.specs.Calls.{answer, passes, filled, writeRefusal, writeReply, writeLeaves}
 use Rattle.code.specs.Many.{numbersMost, fieldBytes, manyReplies, manyCells, madeReplies, stopReply, manyNumbers, manyTold}
 use Rattle.code.proofs.WriteCall.{write-some}
+use Rattle.reading.specs.declared.Refusal.{Refusal}
+use Rattle.reading.specs.declared.Refusal.the-variants.{Plain, Miscounted, Beyond}
+use Rattle.reading.specs.declared.RefusalFields.{RefusalFields}
+use Rattle.reading.specs.Answers.{refusalOf, refusalFieldsOf}
+use Rattle.reading.proofs.Refusals.{refusal-told}
+use Rattle.reading.proofs.Unique.{refusal-not}
 use Rattle.code.proofs.Many.{leaves-length}
 
 -- a list that is filled up with zeros, and a number more in it
@@ -83,6 +89,12 @@ going-begin s xs bytes zeros zeros′ z z′ = record {
   turns = z′;
 }
 
+refusal-passes : (k : Refusal) → passes (refusalOf k) ≡ false
+unfolding passes
+refusal-passes (Plain n) = refl
+refusal-passes (Miscounted i u) = refl
+refusal-passes (Beyond i) = refl
+
 -- what a single write's reply tells: no refusal where it begins with 0, and one where it has a number alone
 written-passes : (s : Shape) (x i k : ℕ) (bs : List ℕ) → 0 ∷ i ∷ k ∷ [] ≡ writeReply s x bs → passes (writeRefusal s x bs) ≡ true
 unfolding writeReply answer passes
@@ -92,13 +104,14 @@ written-passes s x i k bs e = go (writeRefusal s x bs) refl _ e
     go [] q values e = refl
     go (n ∷ carried) q values e = let z : 0 ≡ n = cc in absurd (omega (arith, write-some s x bs n carried q))
 
-refused-not : (s : Shape) (x k : ℕ) (bs : List ℕ) → k ∷ [] ≡ writeReply s x bs → (passes (writeRefusal s x bs) ≡ false) × (0 < k)
+refused-not : (s : Shape) (x : ℕ) (k : Refusal) (bs : List ℕ) → refusalOf k ≡ writeReply s x bs →
+    (passes (writeRefusal s x bs) ≡ false) × (0 < getD (refusalOf k) 0 0)
 unfolding writeReply answer passes
 refused-not s x k bs e = go (writeRefusal s x bs) refl _ _ e
   where
-    go : (r : List ℕ) → writeRefusal s x bs ≡ r → (a b : ℕ) → k ∷ [] ≡ answer r (a ∷ b ∷ []) → (passes r ≡ false) × (0 < k)
-    go [] q a b e = absurd (omega (arith, ap length e))
-    go (n ∷ carried) q a b e = let z : k ≡ n = cc in (refl, omega (arith, write-some s x bs n carried q))
+    go : (r : List ℕ) → writeRefusal s x bs ≡ r → (a b : ℕ) → refusalOf k ≡ answer r (a ∷ b ∷ []) → (passes r ≡ false) × (0 < getD (refusalOf k) 0 0)
+    go [] q a b e = absurd (refusal-not k (sym e))
+    go (n ∷ carried) q a b e = (refl, rw e (write-some s x bs n carried q))
 
 -- the field at j and what is behind it
 module _ {s : Shape} {xs bytes cells generations turned : List ℕ} {j : ℕ} (g : Going s xs bytes cells generations turned j) (more : j < length xs) where
@@ -162,23 +175,25 @@ module _ {s : Shape} {xs bytes cells generations turned : List ℕ} {j : ℕ} (g
         }
 
     -- the field is refused: the answer tells it, and the cells are as they are left
-    pub going-stop : (k : ℕ) → k ∷ [] ≡ writeReply s x (take size rest) →
-        ((k ∷ 1 ∷ j ∷ j ∷ []) ∷ generations ∷ turned ∷ [] ≡ manyTold (manyReplies s xs bytes)) × (after ≡ manyCells s xs bytes)
+    pub going-stop : (k : Refusal) (c : RefusalFields) → refusalFieldsOf c ≡ filled 3 (refusalOf k) → refusalOf k ≡ writeReply s x (take size rest) →
+        ((c .number ∷ 1 ∷ j ∷ j ∷ c .generation ∷ c .unerased ∷ []) ∷ generations ∷ turned ∷ [] ≡ manyTold (manyReplies s xs bytes)) × (after ≡ manyCells s xs bytes)
     unfolding manyReplies manyCells madeReplies stopReply manyNumbers manyTold passes
-    going-stop k reply =
-        let one : List ℕ = k ∷ [] in
+    going-stop k c told reply =
+        let one : List ℕ = refusalOf k in
+        let t = refusal-told k c told in
         let made = g .made in
         let p = refused-not s x k (take size rest) reply in
-        let some : eqb k 0 ≡ false = ne-eqb k 0 (λ z. omega (arith, p .1)) in
+        let some : eqb (getD one 0 0) 0 ≡ false = ne-eqb (getD one 0 0) 0 (λ z. omega (arith, p .1)) in
+        let stopped : passes one ≡ false = refusal-passes k in
         let step : manyReplies s xs bytes ≡ made ++ (one ∷ []) = g .replies ∙ ap (_++_ made) (rw (ahead, p .0, ← reply)) in
         let stop : stopReply (manyReplies s xs bytes) ≡ one = ap stopReply step ∙ g .accepted (one ∷ []) .1 ∙ rw some in
         let all : madeReplies (manyReplies s xs bytes) ≡ made = ap madeReplies step ∙ g .accepted (one ∷ []) .0 ∙ rw some (append-nil made) in
         let j-times : 1 * length made ≡ j = omega (arith, g .many) in
-        (rw (stop, all, j-times, g .many, g .generation, g .turns), left ∙ sym (g .leaves ∙ ap (_++_ (take (j * size) cells)) (rw (ahead, p .0))))
+        (rw (stop, all, stopped, j-times, g .many, g .generation, g .turns, t .number, t .generation, t .unerased), left ∙ sym (g .leaves ∙ ap (_++_ (take (j * size) cells)) (rw (ahead, p .0))))
 
 -- all fields are written
 pub going-end : {s : Shape} {xs bytes cells generations turned : List ℕ} {j : ℕ} → Going s xs bytes cells generations turned j → length xs ≤ j →
-    ((0 ∷ 0 ∷ 0 ∷ j ∷ []) ∷ generations ∷ turned ∷ [] ≡ manyTold (manyReplies s xs bytes)) × (cells ≡ manyCells s xs bytes)
+    ((0 ∷ 0 ∷ 0 ∷ j ∷ 0 ∷ 0 ∷ []) ∷ generations ∷ turned ∷ [] ≡ manyTold (manyReplies s xs bytes)) × (cells ≡ manyCells s xs bytes)
 unfolding manyReplies manyCells madeReplies stopReply manyNumbers manyTold passes
 going-end {s} {xs} {bytes} {cells} {j = j} g h =
     let made = g .made in
@@ -189,3 +204,14 @@ going-end {s} {xs} {bytes} {cells} {j = j} g h =
       rw (stop, all, zero-mul, g .many, g .generation, g .turns),
       sym (g .leaves ∙ ap (_++_ (take (j * fieldBytes s) cells)) (rw none) ∙ take-append-drop (j * fieldBytes s) cells),
     )
+
+-- the two rows stand one behind the other: a number more in the first, and one in the second
+pub rows-next : {s : Shape} {xs bytes cells : List ℕ} {n : ℕ} (rows : List ℕ) (j i k : ℕ) → j < 64 →
+    Going s xs bytes cells (set (take 64 rows) j i) (set (drop 64 rows) j k) n →
+    Going s xs bytes cells (take 64 (set (set rows j i) (64 + j) k)) (drop 64 (set (set rows j i) (64 + j) k)) n
+rows-next rows j i k low g =
+    rw (take-set-le 64 (set rows j i) (64 + j) k (omega arith), take-set-lt 64 rows j i low, drop-set-add 64 (set rows j i) j k, drop-set-lt 64 rows j i low) g
+
+-- no number yet
+pub rows-none : {rows : List ℕ} → rows ≡ replicate 128 0 → (take 64 rows ≡ replicate 64 0) × (drop 64 rows ≡ replicate 64 0)
+rows-none e = (ap (take 64) e, ap (drop 64) e)

@@ -1,3 +1,4 @@
+pub mod Small
 pub mod Going
 pub mod Refusing
 pub mod Unique

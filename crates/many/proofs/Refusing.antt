@@ -5,11 +5,11 @@ use mathlib.Core.Logic.{_≢_}
 use mathlib.Core.Bool.{Bool, not}
 use mathlib.Core.List.{List, [], _∷_}
 use lib.Dec.{eqb}
-use lib.ListN.{length}
+use lib.ListN.{length, take, drop, replicate}
 use borrow.Author.Tests.{lt-ltb, le-ltb, eq-eqb, ne-eqb}
 use Rattle.code.specs.declared.Shape.{Shape}
 use Rattle.code.specs.Shape.{outside, misfit, granted, countsOf}
-use Rattle.code.specs.Calls.{refusal, passes, leaves, layoutRefusal}
+use Rattle.code.specs.Calls.{refusal, passes, leaves, filled, layoutRefusal}
 use Rattle.code.specs.Many.{numbersMost, fieldBytes, manyReplies, manyCells, manyRefusal, manyNumbers, manyTold, manyReply, manyLeaves}
 use Rattle.code.proofs.LayoutCall.{refused-early, passed-early}
 
@@ -18,11 +18,15 @@ abbrev pub Answers : Shape → List ℕ → List ℕ → List (List ℕ) → Lis
 Answers s xs bytes reply after = (reply ≡ manyReply s xs bytes) × (after ≡ manyLeaves s xs bytes)
 
 module _ (s : Shape) (xs bytes : List ℕ) where
-  refuses : (k : ℕ) → manyRefusal s xs bytes ≡ k ∷ [] → Answers s xs bytes (manyNumbers 0 (k ∷ []) []) bytes
-  unfolding manyReply manyLeaves passes leaves
-  refuses k q = (rw q, rw q)
+  -- the numbers of a refusal before any write, and two rows of zeros
+  abbrev pub Barred : ℕ → Type 0
+  Barred k = (end rows : List ℕ) → end ≡ k ∷ 0 ∷ 0 ∷ 0 ∷ 0 ∷ 0 ∷ [] → rows ≡ replicate 128 0 → Answers s xs bytes (end ∷ take 64 rows ∷ drop 64 rows ∷ []) bytes
 
-  pub too-many : numbersMost < length xs → Answers s xs bytes (manyNumbers 0 (14 ∷ []) []) bytes
+  refuses : (k : ℕ) → manyRefusal s xs bytes ≡ k ∷ [] → Barred k
+  unfolding manyReply manyLeaves manyNumbers filled passes leaves
+  refuses k q end rows e zeros = (rw (q, e, zeros), rw q)
+
+  pub too-many : numbersMost < length xs → Barred 14
   unfolding manyRefusal refusal
   too-many h = refuses 14 (rw (lt-ltb numbersMost (length xs) h))
 
@@ -31,7 +35,7 @@ module _ (s : Shape) (xs bytes : List ℕ) where
   lengths = (3 ∷ [], not (eqb (length bytes) (length xs * fieldBytes s))) ∷ []
 
   module _ (few : length xs ≤ numbersMost) where
-    pub no-layout : (k : ℕ) → layoutRefusal s 256 ≡ k ∷ [] → Answers s xs bytes (manyNumbers 0 (k ∷ []) []) bytes
+    pub no-layout : (k : ℕ) → layoutRefusal s 256 ≡ k ∷ [] → Barred k
     unfolding manyRefusal refusal layoutRefusal countsOf
     no-layout k q = refuses k (rw (le-ltb numbersMost (length xs) few) (refused-early (outside s 256) (misfit 256 (granted s 256)) k [] lengths q))
 
@@ -40,7 +44,7 @@ module _ (s : Shape) (xs bytes : List ℕ) where
       unfolding manyRefusal refusal layoutRefusal countsOf
       length-test = rw (le-ltb numbersMost (length xs) few) (passed-early (outside s 256) (misfit 256 (granted s 256)) lengths ok)
 
-      pub other-length : length bytes ≢ length xs * fieldBytes s → Answers s xs bytes (manyNumbers 0 (3 ∷ []) []) bytes
+      pub other-length : length bytes ≢ length xs * fieldBytes s → Barred 3
       unfolding refusal
       other-length d = refuses 3 (length-test ∙ rw (ne-eqb _ _ d))
 

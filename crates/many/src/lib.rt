@@ -4,38 +4,50 @@ use writing::Writing;
 ghost use mathlib.Core.Path.{_≡_};
 ghost use mathlib.Core.List.{[], _∷_, _++_};
 ghost use Prim.Native.Nat.{_+_, _*_, _≤_};
-ghost use lib.ListN.{length, take, drop};
+ghost use lib.ListN.{length, take, drop, replicate};
 ghost use Rattle.code.specs.Calls.{writeReply, writeLeaves};
-ghost use Rattle.code.specs.Many.{fieldBytes, manyReplies, manyCells, manyNumbers, manyTold, manyReply, manyLeaves};
+ghost use Rattle.code.specs.Many.{fieldBytes, manyReplies, manyCells, manyTold, manyReply, manyLeaves};
 ghost use Rattle.writing.specs.Answers.{writingOf};
 ghost use Rattle.layout.specs.Plan.{Granted};
-ghost use Rattle.many.specs.Answers.{manyOf};
+ghost use Rattle.many.specs.Answers.{endOf, manyOf};
 
 const NUMBERS_MOST: usize = 64;
 
 // The refusal, 0 where all numbers are written; where it is a field's, stopped is 1 and the field is told, counted from 0. Then how many
-// fields are written, and of each its generation and its turned count, 0 behind them.
+// fields are written, and what the refusal carries, as far as it does: the generation that the field's zero groups point to, and how many
+// are not erased. Behind that two rows of 64: of each field written its generation, then of each its turned count, 0 behind them.
 #[repr(C)]
 pub struct Many {
     pub refusal: u64,
     pub stopped: u64,
     pub field: u64,
     pub written: u64,
-    pub generations: [u64; 64],
-    pub turned: [u64; 64],
+    pub reached: u64,
+    pub unerased: u64,
+    pub rows: [u16; 128],
+}
+
+// How the writes ended: the numbers of the answer before its two rows.
+struct End {
+    refusal: u64,
+    stopped: u64,
+    field: u64,
+    written: u64,
+    reached: u64,
+    unerased: u64,
 }
 
 // Refused before any write, which names no field.
-fn refuse(refusal: u64) -> Many
-    ensures { λ r. ⌜ manyOf r ≡ manyNumbers 0 (refusal ∷ []) [] ⌝ }
+fn refuse(refusal: u64) -> End
+    ensures { λ r. ⌜ endOf r ≡ refusal ∷ 0 ∷ 0 ∷ 0 ∷ 0 ∷ 0 ∷ [] ⌝ }
 {
-    Many {
+    End {
         refusal,
         stopped: 0,
         field: 0,
         written: 0,
-        generations: [0u64; 64],
-        turned: [0u64; 64],
+        reached: 0,
+        unerased: 0,
     }
 }
 
@@ -57,49 +69,54 @@ fn write_one(h: &[u64; 16], s: Shape, cells: &mut [u8], at: usize, size: usize, 
 }
 
 // Writes the numbers in order up to the first refusal.
-fn write_fields(h: &[u64; 16], s: Shape, cells: &mut [u8], size: usize, numbers: &[u64]) -> Many
+fn write_fields(
+    h: &[u64; 16],
+    s: Shape,
+    cells: &mut [u8],
+    size: usize,
+    numbers: &[u64],
+    rows: &mut [u16; 128],
+) -> End
     requires { ⌜ (Granted s (now h)) × (size ≡ fieldBytes s) × (length (now numbers) ≤ 64) × (length (now cells) ≡ length (now numbers) * size) ⌝ }
-    ensures { λ r. ⌜ manyOf r ≡ manyTold (manyReplies s (now (numbers .entry)) (now (cells .entry))) ⌝ }
+    requires { ⌜ now rows ≡ replicate 128 0 ⌝ }
+    ensures { λ r. ⌜ (endOf r ∷ take 64 (now (rows .exit)) ∷ drop 64 (now (rows .exit)) ∷ []) ≡ manyTold (manyReplies s (now (numbers .entry)) (now (cells .entry))) ⌝ }
     ensures { λ r. ⌜ now (cells .exit) ≡ manyCells s (now (numbers .entry)) (now (cells .entry)) ⌝ }
 {
-    let mut generations = [0u64; 64];
-    let mut turned = [0u64; 64];
     let mut j = 0;
     while j < numbers.len() {
         match write_one(h, s, cells, j * size, size, numbers[j]) {
-            Writing::Written {
-                generation,
-                turned: count,
-            } => {
-                generations[j] = generation;
-                turned[j] = count;
+            Writing::Written { generation, turned } => {
+                rows[j] = generation as u16;
+                rows[64 + j] = turned as u16;
                 j += 1;
             }
             Writing::Refused(refusal) => {
-                return Many {
-                    refusal,
+                let told = reading::flat_refusal(refusal);
+                return End {
+                    refusal: told.number,
                     stopped: 1,
                     field: j as u64,
                     written: j as u64,
-                    generations,
-                    turned,
+                    reached: told.generation,
+                    unerased: told.unerased,
                 };
             }
         }
     }
-    Many {
+    End {
         refusal: 0,
         stopped: 0,
         field: 0,
         written: j as u64,
-        generations,
-        turned,
+        reached: 0,
+        unerased: 0,
     }
 }
 
-// One number for each field, written in order; the first refusal ends it, and the fields before it stay written.
-pub fn write_many(s: Shape, cells: &mut [u8], numbers: &[u64]) -> Many
-    ensures { λ r. ⌜ manyOf r ≡ manyReply s (now (numbers .entry)) (now (cells .entry)) ⌝ }
+// The tests before any write, and the writes.
+fn write_all(s: Shape, cells: &mut [u8], numbers: &[u64], rows: &mut [u16; 128]) -> End
+    requires { ⌜ now rows ≡ replicate 128 0 ⌝ }
+    ensures { λ r. ⌜ (endOf r ∷ take 64 (now (rows .exit)) ∷ drop 64 (now (rows .exit)) ∷ []) ≡ manyReply s (now (numbers .entry)) (now (cells .entry)) ⌝ }
     ensures { λ r. ⌜ now (cells .exit) ≡ manyLeaves s (now (numbers .entry)) (now (cells .entry)) ⌝ }
 {
     if NUMBERS_MOST < numbers.len() {
@@ -114,5 +131,29 @@ pub fn write_many(s: Shape, cells: &mut [u8], numbers: &[u64]) -> Many
     if cells.len() != numbers.len() * size {
         return refuse(3);
     }
-    write_fields(&h, s, cells, size, numbers)
+    write_fields(&h, s, cells, size, numbers, rows)
+}
+
+// One number for each field, written in order; the first refusal ends it, and the fields before it stay written.
+pub fn write_many(s: Shape, cells: &mut [u8], numbers: &[u64]) -> Many
+    ensures { λ r. ⌜ manyOf r ≡ manyReply s (now (numbers .entry)) (now (cells .entry)) ⌝ }
+    ensures { λ r. ⌜ now (cells .exit) ≡ manyLeaves s (now (numbers .entry)) (now (cells .entry)) ⌝ }
+{
+    let mut made = Many {
+        refusal: 0,
+        stopped: 0,
+        field: 0,
+        written: 0,
+        reached: 0,
+        unerased: 0,
+        rows: [0u16; 128],
+    };
+    let end = write_all(s, cells, numbers, &mut made.rows);
+    made.refusal = end.refusal;
+    made.stopped = end.stopped;
+    made.field = end.field;
+    made.written = end.written;
+    made.reached = end.reached;
+    made.unerased = end.unerased;
+    made
 }

@@ -19,7 +19,7 @@ use Rattle.code.specs.Deal.{written, number, plain}
 use Rattle.code.specs.Chosen.{ranked, patternMost}
 use Rattle.code.specs.Cells.{wit, opened, sound}
 use Rattle.code.specs.Field as Field
-use Rattle.code.specs.Calls.{readCells, fieldRead, numberless, unreadable, generation, holds, left, readReply, filled, layoutFields, layoutReply}
+use Rattle.code.specs.Calls.{readCells, fieldRead, numberless, miscounts, exceeds, generation, holds, left, readReply, filled, layoutFields, layoutReply}
 use Rattle.code.proofs.Tests.{le-or-lt}
 use Rattle.code.proofs.Deal.{written-le}
 use Rattle.code.proofs.Chosen.{rank-chosen, digits-chosen}
@@ -28,7 +28,7 @@ use Rattle.code.proofs.Groups.{zeros-written, zeros-blank, unerased-zeros, zero
 use Rattle.code.proofs.Field.{past-next, read-blank, read-judged, judged-reads, judged-beyond, judged-miscounted}
 use Rattle.code.proofs.Cells.{groups-length}
 use Rattle.code.proofs.LayoutCall.{range-at}
-use Rattle.code.proofs.ReadCall.{read-no-layout, read-unsound, read-none, read-unread, read-found}
+use Rattle.code.proofs.ReadCall.{read-no-layout, read-unsound, read-none, read-miscounted, read-beyond, read-found}
 use Rattle.counting.specs.Cap.{sat}
 use Rattle.words.specs.Words.{wordGroups, frontGroups, frontAt}
 use Rattle.words.specs.Marks.{Viewed, Fronted, Listed, Gathered, Pickable}
@@ -211,18 +211,18 @@ module _ {s : Shape} {h : List ℕ} (G : Granted s h) (bs : List ℕ) where
       looked marks seen r W k = record { holds = loaded-holds; same = loaded-groups; none = W .blank ∙ same-zeros G loaded-holds; read = k }
 
     pub reads-as : {words : List ℕ} {n z : ℕ} (r : Field.Reading) → Looked s bs words n z r → answerOf s r ≡ readReply s bs
-    unfolding fieldRead readCells widthOf numberless unreadable generation holds left
+    unfolding fieldRead readCells widthOf numberless miscounts exceeds generation holds left
     reads-as r K = go r (sym (K .read ∙ rw (K .same)))
       where
         old-or-new : (b : Bool) → eqb (s .form) 0 ≡ b → fieldRead s bs ≡ Field.blank → cond b (0 ∷ 1 ∷ 0 ∷ s .t ∷ []) (11 ∷ []) ≡ readReply s bs
-        old-or-new true b e = sym (read-found s bs (G .ok) f Field.blank e (rw b) refl)
+        old-or-new true b e = sym (read-found s bs (G .ok) f Field.blank e (rw b) refl refl)
         old-or-new false b e = sym (read-none s bs (G .ok) f (rw (e, b)))
 
         go : (r : Field.Reading) → fieldRead s bs ≡ r → answerOf s r ≡ readReply s bs
         go Field.blank e = old-or-new (eqb (s .form) 0) refl e
-        go (Field.reads i x) e = sym (read-found s bs (G .ok) f (Field.reads i x) e refl refl)
-        go (Field.miscounted i u) e = sym (read-unread s bs (G .ok) f (rw e))
-        go (Field.beyond i) e = sym (read-unread s bs (G .ok) f (rw e))
+        go (Field.reads i x) e = sym (read-found s bs (G .ok) f (Field.reads i x) e refl refl refl)
+        go (Field.miscounted i u) e = sym (read-miscounted s bs (G .ok) f i u e)
+        go (Field.beyond i) e = sym (read-beyond s bs (G .ok) f i e)
 
 -- a layout that is refused refuses the reading with its number
 pub reads-refused : (s : Shape) (bs : List ℕ) {k : ℕ} {h : List ℕ} → k ∷ h ≡ filled layoutFields (layoutReply s 256) → k ≢ 0 → k ∷ [] ≡ readReply s bs

@@ -13,13 +13,29 @@ use Rattle.words.specs.Words.{wordGroups, Tidy, frontGroups}
 use Rattle.words.specs.Marks.{Ends}
 use Rattle.reading.specs.declared.Reading.{Reading}
 use Rattle.reading.specs.declared.Reading.the-variants.{Read, Refused}
+use Rattle.reading.specs.declared.Refusal.{Refusal}
+use Rattle.reading.specs.declared.Refusal.the-variants.{Plain, Miscounted as MiscountedRefusal, Beyond as BeyondRefusal}
+use Rattle.reading.specs.declared.RefusalFields.{RefusalFields}
+use Rattle.reading.specs.declared.ReadFields.{ReadFields}
 use Rattle.reading.specs.declared.Found.{Found}
 use Rattle.reading.specs.declared.Found.the-variants.{Blank, Number, Miscounted, Beyond}
+
+-- a refusal as its number and what it carries
+abbrev pub refusalOf : Refusal → List ℕ
+refusalOf (Plain k) = k ∷ []
+refusalOf (MiscountedRefusal generation unerased) = 15 ∷ generation ∷ unerased ∷ []
+refusalOf (BeyondRefusal generation) = 16 ∷ generation ∷ []
+
+abbrev pub refusalFieldsOf : RefusalFields → List ℕ
+refusalFieldsOf c = c .number ∷ c .generation ∷ c .unerased ∷ []
+
+abbrev pub readFieldsOf : ReadFields → List ℕ
+readFieldsOf r = r .refusal ∷ r .generation ∷ r .number ∷ r .left ∷ r .unerased ∷ []
 
 -- an enum answer as document 01's numbers: 0 and the values, or the refusal
 abbrev pub readingOf : Reading → List ℕ
 readingOf (Read generation number left) = 0 ∷ generation ∷ number ∷ left ∷ []
-readingOf (Refused k) = k ∷ []
+readingOf (Refused k) = refusalOf k
 
 -- what sound cells read as
 abbrev pub foundOf : Found → Field.Reading
@@ -32,8 +48,8 @@ foundOf (Beyond i) = Field.beyond i
 abbrev pub answerOf : Shape → Field.Reading → List ℕ
 answerOf s Field.blank = cond (eqb (s .form) 0) (0 ∷ 1 ∷ 0 ∷ s .t ∷ []) (11 ∷ [])
 answerOf s (Field.reads i x) = 0 ∷ i ∷ x ∷ (s .t - i) ∷ []
-answerOf s (Field.miscounted i u) = 4 ∷ []
-answerOf s (Field.beyond i) = 4 ∷ []
+answerOf s (Field.miscounted i u) = 15 ∷ i ∷ u ∷ []
+answerOf s (Field.beyond i) = 16 ∷ i ∷ []
 
 -- the groups of a field in the first n words
 abbrev pub fieldGroups : Shape → ℕ → List ℕ → List ℕ

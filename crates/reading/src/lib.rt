@@ -12,12 +12,19 @@ ghost use Rattle.code.specs.Cells.{sound};
 ghost use Rattle.code.specs.Deal.{written, number, plain};
 ghost use Rattle.code.specs.Chosen.{patternMost};
 ghost use Rattle.code.specs.Field as Field;
-ghost use Rattle.code.specs.Calls.{readReply};
+ghost use Rattle.code.specs.Calls.{filled, readFields, readReply};
 ghost use Rattle.counting.specs.Cap.{sat};
 ghost use Rattle.words.specs.Words.{frontAt};
 ghost use Rattle.words.specs.Marks.{Viewed, Pickable};
 ghost use Rattle.layout.specs.Plan.{Planned, Granted};
-ghost use Rattle.reading.specs.Answers.{readingOf, foundOf, answerOf, fieldGroups, Holds, Looked, Close, Ranged};
+ghost use Rattle.reading.specs.Answers.{refusalOf, refusalFieldsOf, readFieldsOf, readingOf, foundOf, answerOf, fieldGroups, Holds, Looked, Close, Ranged};
+
+// A refusal: its number alone, or 15 and 16 with what they carry.
+pub enum Refusal {
+    Plain(u64),
+    Miscounted { generation: u64, unerased: u64 },
+    Beyond { generation: u64 },
+}
 
 pub enum Reading {
     Read {
@@ -25,7 +32,24 @@ pub enum Reading {
         number: u64,
         left: u64,
     },
-    Refused(u64),
+    Refused(Refusal),
+}
+
+// The number of a refusal and what it carries, 0 for what it lacks.
+pub struct RefusalFields {
+    pub number: u64,
+    pub generation: u64,
+    pub unerased: u64,
+}
+
+// A reading or its refusal in numbers, 0 for those that it lacks.
+#[repr(C)]
+pub struct ReadFields {
+    pub refusal: u64,
+    pub generation: u64,
+    pub number: u64,
+    pub left: u64,
+    pub unerased: u64,
 }
 
 // What sound cells read as, and the reason where they have no number: the unerased groups are not as many as the generation has, or the number is beyond the range.
@@ -229,7 +253,7 @@ fn answer_blank(s: Shape) -> Reading
     ensures { λ r. ⌜ readingOf r ≡ answerOf s Field.blank ⌝ }
 {
     if s.form != 0 {
-        return Reading::Refused(11);
+        return Reading::Refused(Refusal::Plain(11));
     }
     Reading::Read {
         generation: 1,
@@ -250,10 +274,13 @@ fn answer(found: Found, s: Shape) -> Reading
             left: writes_left(s.t, generation),
         },
         Found::Miscounted {
-            generation: _,
-            unerased: _,
-        } => Reading::Refused(4),
-        Found::Beyond { generation: _ } => Reading::Refused(4),
+            generation,
+            unerased,
+        } => Reading::Refused(Refusal::Miscounted {
+            generation,
+            unerased,
+        }),
+        Found::Beyond { generation } => Reading::Refused(Refusal::Beyond { generation }),
     }
 }
 
@@ -293,7 +320,7 @@ fn read_granted(h: &[u64; 16], s: Shape, cells: &[u8]) -> Reading
     ensures { λ r. ⌜ readingOf r ≡ readReply s (now (cells .entry)) ⌝ }
 {
     if !cells::is_sound(cells, layout::order(s), s.m as usize, h[0] as usize) {
-        return Reading::Refused(3);
+        return Reading::Refused(Refusal::Plain(3));
     }
     let mut words = [0u64; 16];
     let mut marks = [0u64; 16];
@@ -308,7 +335,7 @@ pub fn read_by(plan: Plan, h: &[u64; 16], cells: &[u8]) -> Reading
     ensures { λ r. ⌜ readingOf r ≡ readReply (plan .shape) (now (cells .entry)) ⌝ }
 {
     if plan.refusal != 0 {
-        return Reading::Refused(plan.refusal);
+        return Reading::Refused(Refusal::Plain(plan.refusal));
     }
     read_granted(h, plan.shape, cells)
 }
@@ -319,7 +346,60 @@ pub fn read(s: Shape, cells: &[u8]) -> Reading
     let mut h = [0u64; 16];
     let refusal = layout::lay_into(&mut h, s, 256);
     if refusal != 0 {
-        return Reading::Refused(refusal);
+        return Reading::Refused(Refusal::Plain(refusal));
     }
     read_granted(&h, s, cells)
+}
+
+pub fn flat_refusal(refusal: Refusal) -> RefusalFields
+    ensures { λ r. ⌜ refusalFieldsOf r ≡ filled 3 (refusalOf refusal) ⌝ }
+{
+    match refusal {
+        Refusal::Plain(number) => RefusalFields {
+            number,
+            generation: 0,
+            unerased: 0,
+        },
+        Refusal::Miscounted {
+            generation,
+            unerased,
+        } => RefusalFields {
+            number: 15,
+            generation,
+            unerased,
+        },
+        Refusal::Beyond { generation } => RefusalFields {
+            number: 16,
+            generation,
+            unerased: 0,
+        },
+    }
+}
+
+pub fn flat(reading: Reading) -> ReadFields
+    ensures { λ r. ⌜ readFieldsOf r ≡ readFields (readingOf reading) ⌝ }
+{
+    match reading {
+        Reading::Read {
+            generation,
+            number,
+            left,
+        } => ReadFields {
+            refusal: 0,
+            generation,
+            number,
+            left,
+            unerased: 0,
+        },
+        Reading::Refused(refusal) => {
+            let c = flat_refusal(refusal);
+            ReadFields {
+                refusal: c.number,
+                generation: c.generation,
+                number: 0,
+                left: 0,
+                unerased: c.unerased,
+            }
+        }
+    }
 }

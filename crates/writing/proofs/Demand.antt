@@ -23,7 +23,8 @@ use Rattle.code.proofs.Demand as Code
 use Rattle.reading.specs.declared.Reading.{Reading}
 use Rattle.reading.specs.declared.Reading.the-variants.{Read}
 use Rattle.reading.specs.Answers.{readingOf}
-use Rattle.reading.proofs.Unique.{same-reading}
+use Rattle.reading.specs.declared.Refusal.{Refusal}
+use Rattle.reading.proofs.Unique.{refusal-not, same-reading}
 use Rattle.writing.specs.declared.Writing.{Writing}
 use Rattle.writing.specs.declared.Writing.the-variants.{Written, Refused}
 use Rattle.writing.specs.Answers.{writingOf}
@@ -43,7 +44,7 @@ answered : (k : List ℕ) (i n : ℕ) (r : Writing) → ((j : ℕ) (carried : Li
     (accepts r ≡ passes k) × (turns r ≡ turnedBy (answer k (i ∷ n ∷ [])))
 unfolding answer passes turnedBy
 answered [] i n (Written i′ n′) some q = (refl, cc)
-answered [] i n (Refused k) some q = absurd (omega (arith, ap length q))
+answered [] i n (Refused k) some q = absurd (refusal-not k (sym q))
 answered (j ∷ carried) i n (Written i′ n′) some q = let z : j ≡ 0 = cc in absurd (omega (arith, some j carried refl))
 answered (j ∷ carried) i n (Refused k) some q = (refl, rw (ne-eqb j 0 (λ z. omega (arith, some j carried refl))))
 
@@ -97,7 +98,7 @@ module _ (s : Shape) (x : ℕ) (bs : List ℕ) (B : Bytes bs) (r : Writing) (aft
       rw (turns-is s x bs (Written i n) q, promise .1) (Code.turned-are s (granted-first s x i n bs q) x bs B)
 
   -- Demand 1: a refused write leaves the cells as they were.
-  pub refused-keeps : (k : ℕ) → r ≡ Refused k → after ≡ bs
+  pub refused-keeps : (k : Refusal) → r ≡ Refused k → after ≡ bs
   unfolding passes
   refused-keeps k made = promise .1 ∙ go (writeRefusal s x bs) refl (rw made at (accepts-is s x bs r (promise .0)))
     where

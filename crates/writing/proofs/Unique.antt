@@ -1,10 +1,9 @@
 -- The promise of `write` leaves no choice: two answers that it allows are equal, and so are the cells at exit.
 use Prim.Native.Nat.{ℕ}
-use mathlib.Core.Path.{_≡_, sym, ap, _∙_}
+use mathlib.Core.Path.{_≡_, sym, _∙_}
 use mathlib.Core.List.{List}
-use native.Mathlib.Omega.{arith}
-use lib.ListN.{length}
 use Rattle.code.specs.declared.Shape.{Shape}
+use Rattle.reading.proofs.Unique.{same-refusal, refusal-not}
 use Rattle.writing.specs.declared.Writing.{Writing}
 use Rattle.writing.specs.declared.Writing.the-variants.{Written, Refused}
 use Rattle.writing.specs.Answers.{writingOf}
@@ -15,11 +14,9 @@ same-writing (Written i n) (Written i′ n′) q =
     let a : i ≡ i′ = cc in
     let b : n ≡ n′ = cc in
     rw (a, b)
-same-writing (Written i n) (Refused k) q = absurd (omega (arith, ap length q))
-same-writing (Refused k) (Written i n) q = absurd (omega (arith, ap length q))
-same-writing (Refused k) (Refused k′) q =
-    let a : k ≡ k′ = cc in
-    rw a
+same-writing (Written i n) (Refused k) q = absurd (refusal-not k q)
+same-writing (Refused k) (Written i n) q = absurd (refusal-not k (sym q))
+same-writing (Refused k) (Refused k′) q = rw (same-refusal k k′ q)
 
 pub unique-writing : (s : Shape) (x : ℕ) (bs after after′ : List ℕ) (r r′ : Writing)
     → Answers s x bs (writingOf r) after → Answers s x bs (writingOf r′) after′ → (r ≡ r′) × (after ≡ after′)

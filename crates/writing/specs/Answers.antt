@@ -10,6 +10,9 @@ use Rattle.code.specs.Shape.{countsOf, widthOf}
 use Rattle.code.specs.Deal.{written}
 use Rattle.code.specs.Field as Field
 use Rattle.words.specs.Words.{frontGroups}
+use Rattle.reading.specs.declared.Refusal.the-variants.{Plain, Miscounted, Beyond}
+use Rattle.reading.specs.Answers.{refusalOf}
+use Rattle.writing.specs.declared.WriteFields.{WriteFields}
 use Rattle.writing.specs.declared.Writing.{Writing}
 use Rattle.writing.specs.declared.Writing.the-variants.{Written, Refused}
 use Rattle.writing.specs.declared.Aim.{Aim}
@@ -18,14 +21,17 @@ use Rattle.writing.specs.declared.Aim.the-variants.{At, Refused as NotAt
 -- an enum answer as document 01's numbers: 0 and the values, or the refusal
 abbrev pub writingOf : Writing → List ℕ
 writingOf (Written generation turned) = 0 ∷ generation ∷ turned ∷ []
-writingOf (Refused k) = k ∷ []
+writingOf (Refused k) = refusalOf k
+
+abbrev pub writeFieldsOf : WriteFields → List ℕ
+writeFieldsOf r = r .refusal ∷ r .generation ∷ r .turned ∷ r .unerased ∷ []
 
 -- where a reading is written next, or the refusal that is left to it
 abbrev pub aimAt : ℕ → Field.Reading → Aim
 aimAt t Field.blank = At 0
-aimAt t (Field.reads i x) = cond (eqb i t) (NotAt 5) (At i)
-aimAt t (Field.miscounted i u) = NotAt 4
-aimAt t (Field.beyond i) = NotAt 4
+aimAt t (Field.reads i x) = cond (eqb i t) (NotAt (Plain 5)) (At i)
+aimAt t (Field.miscounted i u) = NotAt (Miscounted i u)
+aimAt t (Field.beyond i) = NotAt (Beyond i)
 
 -- groups that may be written at place i, z of them zero
 pub record Ready (s : Shape) (i z : ℕ) (gs : List ℕ) : Type 0 where

@@ -1,6 +1,7 @@
 // Writing one field: document 01, "Writing", with the refusals in the table's order.
 use code::Shape;
 use reading::Found;
+use reading::Refusal;
 ghost use mathlib.Core.Path.{_≡_};
 ghost use mathlib.Core.Bool.{true};
 ghost use Prim.Native.Nat.{suc, _+_, _-_, _^_, _<_, _≤_};
@@ -12,24 +13,33 @@ ghost use Rattle.code.specs.Cells.{sound};
 ghost use Rattle.code.specs.Deal.{deal, plainly};
 ghost use Rattle.code.specs.Chosen.{patternMost};
 ghost use Rattle.code.specs.Field as Field;
-ghost use Rattle.code.specs.Calls.{writeReply, writeLeaves};
+ghost use Rattle.code.specs.Calls.{writeFields, writeReply, writeLeaves};
 ghost use Rattle.counting.specs.Cap.{cap};
 ghost use Rattle.words.specs.Words.{frontGroups};
 ghost use Rattle.words.specs.Marks.{ZeroMarked, Layered};
 ghost use Rattle.cells.specs.Cells.{Stored};
 ghost use Rattle.layout.specs.Plan.{Granted};
 ghost use Rattle.reading.specs.Answers.{foundOf, fieldGroups, Holds};
-ghost use Rattle.writing.specs.Answers.{writingOf, aimAt, Ready, Carries};
+ghost use Rattle.writing.specs.Answers.{writingOf, writeFieldsOf, aimAt, Ready, Carries};
 
 pub enum Writing {
     Written { generation: u64, turned: u64 },
-    Refused(u64),
+    Refused(Refusal),
+}
+
+// A write or its refusal in numbers, 0 for those that it lacks.
+#[repr(C)]
+pub struct WriteFields {
+    pub refusal: u64,
+    pub generation: u64,
+    pub turned: u64,
+    pub unerased: u64,
 }
 
 // Where a reading is written next, or the refusal that is left to it.
 enum Aim {
     At(usize),
-    Refused(u64),
+    Refused(Refusal),
 }
 
 fn take_aim(found: Found, t: u64) -> Aim
@@ -42,15 +52,18 @@ fn take_aim(found: Found, t: u64) -> Aim
             number: _,
         } => {
             if generation == t {
-                return Aim::Refused(5);
+                return Aim::Refused(Refusal::Plain(5));
             }
             Aim::At(generation as usize)
         }
         Found::Miscounted {
-            generation: _,
-            unerased: _,
-        } => Aim::Refused(4),
-        Found::Beyond { generation: _ } => Aim::Refused(4),
+            generation,
+            unerased,
+        } => Aim::Refused(Refusal::Miscounted {
+            generation,
+            unerased,
+        }),
+        Found::Beyond { generation } => Aim::Refused(Refusal::Beyond { generation }),
     }
 }
 
@@ -210,10 +223,10 @@ pub fn write_granted(h: &[u64; 16], s: Shape, cells: &mut [u8], x: u64) -> Writi
     ensures { λ r. ⌜ (writingOf r ≡ writeReply s x (now (cells .entry))) × (now (cells .exit) ≡ writeLeaves s x (now (cells .entry))) ⌝ }
 {
     if !cells::is_sound(cells, layout::order(s), s.m as usize, h[0] as usize) {
-        return Writing::Refused(3);
+        return Writing::Refused(Refusal::Plain(3));
     }
     if s.v <= x {
-        return Writing::Refused(6);
+        return Writing::Refused(Refusal::Plain(6));
     }
     write_sound(h, s, cells, x)
 }
@@ -224,7 +237,29 @@ pub fn write(s: Shape, cells: &mut [u8], x: u64) -> Writing
     let mut h = [0u64; 16];
     let refusal = layout::lay_into(&mut h, s, 256);
     if refusal != 0 {
-        return Writing::Refused(refusal);
+        return Writing::Refused(Refusal::Plain(refusal));
     }
     write_granted(&h, s, cells, x)
+}
+
+pub fn flat(writing: Writing) -> WriteFields
+    ensures { λ r. ⌜ writeFieldsOf r ≡ writeFields (writingOf writing) ⌝ }
+{
+    match writing {
+        Writing::Written { generation, turned } => WriteFields {
+            refusal: 0,
+            generation,
+            turned,
+            unerased: 0,
+        },
+        Writing::Refused(refusal) => {
+            let c = reading::flat_refusal(refusal);
+            WriteFields {
+                refusal: c.number,
+                generation: c.generation,
+                turned: 0,
+                unerased: c.unerased,
+            }
+        }
+    }
 }

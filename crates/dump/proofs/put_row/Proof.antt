@@ -28,7 +28,7 @@ put-row-spec =
     μ-loop
     -- loop-holds
     (λ c.
-    let long : length (c .before .args .row .numbers) ≡ 12 = search needs in
+    let long : length (c .before .args .row .numbers) ≡ 13 = search needs in
     (search needs, simp length-take (omega (arith, c .before .pre .0, long)), rw add-zero (storing-begin _ _ _)))
     -- mul-rows
     (λ c. search needs)

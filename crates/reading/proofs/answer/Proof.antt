@@ -15,15 +15,15 @@ answer-spec =
     (λ c. search needs)
     -- writes-left-requires
     (λ c κs. search needs)
-    -- enum-told-2
+    -- enum-known-found-2
     (λ c. search needs)
-    -- enum-told-3
+    -- enum-known-found-3
     (λ c. search needs)
     -- returns
     (λ c. rw (c .before .enum-told .given .1) (c .answer-blank .ensures))
     -- returns-2
     (λ c. rw (c .before .before .found .given .1) (rw (c .writes-left .ensures)))
     -- returns-3
-    (λ c. rw (c .enum-told2 .given .1))
+    (λ c. rw (c .before .found2 .given .1))
     -- returns-4
-    (λ c. rw (c .enum-told3 .given .1)))
+    (λ c. rw (c .before .found3 .given .1)))

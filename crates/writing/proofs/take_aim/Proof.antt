@@ -17,5 +17,7 @@ take-aim-spec =
     (λ c. search needs)
     -- returns-3
     (λ c. rw (c .before .before .found .given .1, ne-eqb _ _ (c .if1 .left)))
-    (λ c. search needs)
-    (λ c. search needs))
+    -- returns-4
+    (λ c. rw (c .before .found2 .given .1))
+    -- returns-5
+    (λ c. rw (c .before .found3 .given .1)))

@@ -11,7 +11,7 @@ use Rattle.answers.proofs.lines.put_records.Tie as tie
 
 abbrev Inv-loop : tie.InvT-loop
 Inv-loop out₀ at dump kind rows count width place₀ from₀ i₀ out place from i =
-    (length out ≡ length out₀) × Fits place out × (i ≤ count) × (from ≤ length rows) × (10 ≤ width)
+    (length out ≡ length out₀) × Fits place out × (i ≤ count) × (from ≤ length rows) × (11 ≤ width)
 
 abbrev μ-loop : tie.MeasureT-loop
 μ-loop out₀ at dump kind rows count width place₀ from₀ i₀ out place from i = count - i

@@ -8,10 +8,10 @@ use Rattle.answers.proofs.written.put_made.Statement.{statement}
 use Rattle.answers.proofs.written.put_made.Tie as tie
 
 abbrev Inv-loop : tie.InvT-loop
-Inv-loop out₀ at generations turned count place₀ j₀ t9 out place j = (length out ≡ length out₀) × Fits place out × (j ≤ count)
+Inv-loop out₀ at rows count place₀ j₀ t8 out place j = (length out ≡ length out₀) × Fits place out × (j ≤ count)
 
 abbrev μ-loop : tie.MeasureT-loop
-μ-loop out₀ at generations turned count place₀ j₀ t9 out place j = count - j
+μ-loop out₀ at rows count place₀ j₀ t8 out place j = count - j
 
 pub put-made-spec : {M : Type 1} → statement M
 put-made-spec =
@@ -20,6 +20,9 @@ put-made-spec =
     Inv-loop
     μ-loop
     (λ c κs. search needs)
+    (λ c. search needs)
+    (λ c. search needs)
+    (λ c. search needs)
     (λ c. search needs)
     (λ c. search needs)
     (λ c. search needs)

@@ -22,7 +22,7 @@ flat-step-spec =
     (λ c. search needs)
     (λ c κs. search needs)
     -- returns
-    (λ c. rw (c .before .before .before .before .a .given .1) (found-record _ _ _ (c .before .before .flat-reading .ensures)))
+    (λ c. rw (c .before .before .before .before .a .given .1) (found-record _ _ _ (c .before .before .flat .ensures)))
     -- returns-2
     (λ c. c .no-record .ensures ∙ rw (c .before .enum-told .given .1) (found-none 0))
     -- returns-3

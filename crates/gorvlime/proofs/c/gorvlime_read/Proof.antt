@@ -1,7 +1,7 @@
--- `gorvlime::c::gorvlime_read` meets its contract: the reading's reply in four fields. Assumes nothing.
+-- `gorvlime::c::gorvlime_read` meets its contract: the reading's reply in its fields. Assumes nothing.
 use mathlib.Core.Path.{ap, _∙_}
 use borrow.Author.Needs.{needs}
-use Rattle.code.specs.Calls.{filled}
+use Rattle.code.specs.Calls.{readFields}
 use Rattle.gorvlime.proofs.c.gorvlime_read.Statement.{statement}
 use Rattle.gorvlime.proofs.c.gorvlime_read.Tie as tie
 
@@ -11,4 +11,4 @@ gorvlime-read-spec =
     (tie.spec
     (λ c κs. search needs)
     (λ c κs. search needs)
-    (λ c. c .flat-reading .ensures ∙ ap (filled 4) (c .before .read .ensures)))
+    (λ c. c .flat .ensures ∙ ap readFields (c .before .read .ensures)))

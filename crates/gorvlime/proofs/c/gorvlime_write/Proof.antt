@@ -1,7 +1,7 @@
--- `gorvlime::c::gorvlime_write` meets its contract: the write's reply in three fields, and its cells. Assumes nothing.
+-- `gorvlime::c::gorvlime_write` meets its contract: the write's reply in its fields, and its cells. Assumes nothing.
 use mathlib.Core.Path.{ap, _∙_}
 use borrow.Author.Needs.{needs}
-use Rattle.code.specs.Calls.{filled}
+use Rattle.code.specs.Calls.{writeFields}
 use Rattle.gorvlime.proofs.c.gorvlime_write.Statement.{statement}
 use Rattle.gorvlime.proofs.c.gorvlime_write.Tie as tie
 
@@ -12,4 +12,4 @@ gorvlime-write-spec =
     (λ c κs. search needs)
     (λ c κs. search needs)
     (λ c. search needs)
-    (λ c. let w = c .before .before .before .write .ensures in (c .flat-writing .ensures ∙ ap (filled 3) (w .0), w .1)))
+    (λ c. let w = c .before .before .before .write .ensures in (c .flat .ensures ∙ ap writeFields (w .0), w .1)))
