@@ -110,7 +110,7 @@ pub fn part(bytes: &[u8], start: usize, count: usize) -> &[u8]
     records::part(bytes, start, count)
 }
 
-// The records from a place of an old dump on, ten numbers each, as many as fit into the rows.
+// The records from a place of an old dump on, eleven numbers each, as many as fit into the rows.
 pub fn walk(bytes: &[u8], at: usize, rows: &mut [u64]) -> Walked
     ensures { λ r. ⌜ walkedOf r ≡ walkReply Old (now (bytes .entry)) at (now (rows .entry)) ⌝ }
     ensures { λ r. ⌜ now (rows .exit) ≡ walkLeaves Old (now (bytes .entry)) at (now (rows .entry)) ⌝ }
@@ -118,7 +118,7 @@ pub fn walk(bytes: &[u8], at: usize, rows: &mut [u64]) -> Walked
     dump::walk(bytes, Kind::Old, at, rows)
 }
 
-// The records from a place of a new dump on, twelve numbers each, as many as fit into the rows.
+// The records from a place of a new dump on, thirteen numbers each, as many as fit into the rows.
 pub fn walk_new(bytes: &[u8], at: usize, rows: &mut [u64]) -> Walked
     ensures { λ r. ⌜ walkedOf r ≡ walkReply New (now (bytes .entry)) at (now (rows .entry)) ⌝ }
     ensures { λ r. ⌜ now (rows .exit) ≡ walkLeaves New (now (bytes .entry)) at (now (rows .entry)) ⌝ }
