@@ -62,7 +62,7 @@ pub fn export(
     if serial > LARGEST_SERIAL {
         return Err(Refusal::SerialOutOfBounds);
     }
-    let layout = layouts.grant(shape.in_form_0(), GROUPS_OFFERED)?;
+    let layout = layouts.grant(&shape.in_form_0(), GROUPS_OFFERED)?;
     cells::groups_of(&layout, cells)?;
     store_in_front(&record_bytes(serial, shape, cells), output)
 }
@@ -114,7 +114,7 @@ pub fn walk<'dump>(dump: &'dump [u8], layouts: &mut Layouts) -> Walk<'dump> {
         shape: record.head.shape,
         start: record.start,
         cells: record.cells,
-        outcome: field::read(record.head.shape.in_form_0(), record.cells, layouts),
+        outcome: field::read(&record.head.shape.in_form_0(), record.cells, layouts),
     };
     let records = unread.into_iter().map(read).collect();
     Walk { records, ending }

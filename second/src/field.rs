@@ -22,34 +22,38 @@ pub struct Written {
 }
 
 /// Refusals in the order 1, 2, 3, 11, 15, 16.
-pub fn read(shape: Shape, cells: &[u8], layouts: &mut Layouts) -> Result<Reading, Refusal> {
+pub fn read(shape: &Shape, cells: &[u8], layouts: &mut Layouts) -> Result<Reading, Refusal> {
     let layout = layouts.grant(shape, GROUPS_OFFERED)?;
     let groups = cells::groups_of(&layout, cells)?;
-    // "Reading blank form 1 cells gives 11, after 3."
+    // "Reading blank form 1 cells gives 11, after 3", and those of form 2.
     if is_blank(&groups) && !layout.blank_is_a_pattern() {
         return Err(Refusal::Blank);
     }
     reading_of(&layout, &groups, &mut layouts.counting)
 }
 
-/// Refusals in the order 1, 2, 3, 6, 15, 16, 5. The lent cells stay as they are; an
-/// accepted write answers the new ones.
+/// Refusals in the order 1, 2, 3, 6, 15, 16, 5, and in form 2, where "6 is tested after
+/// 5", in the order 1, 2, 3, 15, 16, 5, 6. The lent cells stay as they are; an accepted
+/// write answers the new ones.
 pub fn write(
-    shape: Shape,
+    shape: &Shape,
     number: u64,
     cells: &[u8],
     layouts: &mut Layouts,
 ) -> Result<Written, Refusal> {
     let layout = layouts.grant(shape, GROUPS_OFFERED)?;
     let groups = cells::groups_of(&layout, cells)?;
-    if number >= shape.v {
-        return Err(Refusal::NumberOutOfRange);
+    // Of forms 0 and 1, whose range is the same for every generation.
+    if layout.has_one_range() {
+        refuse_beyond(layout.range(1), number)?;
     }
     let counting = &mut layouts.counting;
     let generation = generation_to_write(&layout, &groups, counting)?;
+    // "Below the range of the generation that would take it."
+    refuse_beyond(layout.range(generation), number)?;
     let prepared = prepared_for(generation, &layout, groups);
     let pattern = pattern_for(generation, &layout, &Whole::from(number), counting)
-        .expect("conditions b to d leave a pattern for every number below v");
+        .expect("conditions b to d leave a pattern for every number below v_i");
     let after = cells::bytes_of_groups(&layout, &with_pattern(&prepared, &pattern));
     Ok(Written {
         generation,
@@ -58,8 +62,15 @@ pub fn write(
     })
 }
 
-/// "All-zero cells are written at generation 1", in form 1 too, where they have no
-/// reading. "Cells read as generation i < t are written at i + 1."
+fn refuse_beyond(range: u64, number: u64) -> Result<(), Refusal> {
+    match number < range {
+        true => Ok(()),
+        false => Err(Refusal::NumberOutOfRange),
+    }
+}
+
+/// "All-zero cells are written at generation 1", in forms 1 and 2 too, where they have
+/// no reading. "Cells read as generation i < t are written at i + 1."
 fn generation_to_write(
     layout: &Layout,
     groups: &[u64],
@@ -105,8 +116,9 @@ fn reading_of(
         None => dealing::last_number(&places, layout.erased())
             .expect("fewer than h_t zero groups leave a digit that is not 0"),
     };
-    // "The number must be below v."
-    let in_range = number.to_u64().filter(|number| *number < layout.range());
+    // "The number must be below v", which is the range of the generation read.
+    let range = layout.range(generation);
+    let in_range = number.to_u64().filter(|number| *number < range);
     let number = in_range.ok_or(Refusal::Beyond { generation })?;
     // "Writes left: t for all-zero cells, else t less the generation."
     let used = if is_blank(groups) { 0 } else { generation };

@@ -1,5 +1,6 @@
-//! "Layout": the bounds, conditions a to d, and the least list that meets them,
-//! in both forms of document 02's "A new drive is not a zero".
+//! "Layout": the bounds, conditions a to d, and the least list that meets them, in
+//! form 0, in form 1 of document 02's "A new drive is not a zero" and in form 2 of its
+//! "Ranges that shrink".
 
 use crate::counting::Counting;
 use crate::dealing::Deal;
@@ -8,28 +9,35 @@ use crate::whole::Whole;
 use std::collections::HashMap;
 use std::ops::RangeInclusive;
 
-/// "A form above 1 is refusal 1."
-const FORM_BOUNDS: RangeInclusive<u64> = 0..=1;
+/// "A form above 1 is refusal 1", and §7 adds form 2.
+const FORM_BOUNDS: RangeInclusive<u64> = 0..=2;
 const GROUP_BOUNDS: RangeInclusive<u64> = 2..=4;
-const GENERATION_BOUNDS: RangeInclusive<u64> = 2..=16;
+pub const GENERATION_BOUNDS: RangeInclusive<u64> = 2..=16;
 const RANGE_BOUNDS: RangeInclusive<u64> = 2..=1 << 56;
 const OFFERED_BOUNDS: RangeInclusive<u64> = 0..=256;
 
 /// "Read, write and export ask for their layout with g = 256."
 pub const GROUPS_OFFERED: u64 = 256;
 
-/// The form, m, t and v as they are asked for, within their bounds or not.
-#[derive(Clone, Copy, Debug, PartialEq, Eq, Hash)]
+/// "Take a list of t ranges .. with form 2." All others have one range, those that are
+/// no form too.
+pub fn has_t_ranges(form: u64) -> bool {
+    form == 2
+}
+
+/// The form, m, t and ranges as they are asked for, within their bounds or not.
+#[derive(Clone, Debug, PartialEq, Eq, Hash)]
 pub struct Shape {
     pub form: u64,
     pub m: u64,
     pub t: u64,
-    pub v: u64,
+    /// v_1 .. v_t in form 2, else v alone.
+    pub ranges: Vec<u64>,
 }
 
-/// What the old export is given of a field and an old record tells of it: "Form 1
-/// cells aren't dumped".
-#[derive(Clone, Copy, Debug, PartialEq, Eq)]
+/// m, t and v: what the old export is given of a field and an old record tells of it,
+/// since "form 1 cells aren't dumped".
+#[derive(Clone, Copy, Debug, PartialEq, Eq, Hash)]
 pub struct OldShape {
     pub m: u64,
     pub t: u64,
@@ -38,21 +46,53 @@ pub struct OldShape {
 
 impl OldShape {
     pub fn in_form_0(self) -> Shape {
+        self.in_form(0)
+    }
+
+    /// A form of one range.
+    pub fn in_form(self, form: u64) -> Shape {
         Shape {
-            form: 0,
+            form,
             m: self.m,
             t: self.t,
-            v: self.v,
+            ranges: vec![self.v],
         }
     }
 }
 
 impl Shape {
+    /// Form 2, with a generation for each range.
+    pub fn of_ranges(m: u64, ranges: &[u64]) -> Shape {
+        Shape {
+            form: 2,
+            m,
+            t: ranges.len() as u64,
+            ranges: ranges.to_vec(),
+        }
+    }
+
     fn is_within_bounds(&self) -> bool {
         FORM_BOUNDS.contains(&self.form)
             && GROUP_BOUNDS.contains(&self.m)
             && GENERATION_BOUNDS.contains(&self.t)
-            && RANGE_BOUNDS.contains(&self.v)
+            && self.ranges.len() as u64 == self.ranges_due()
+            && self.ranges.iter().all(|v| RANGE_BOUNDS.contains(v))
+    }
+
+    /// "A list not of t ranges is 1", and for one range so is a list of more or none.
+    pub fn ranges_due(&self) -> u64 {
+        match has_t_ranges(self.form) {
+            true => self.t,
+            false => 1,
+        }
+    }
+
+    /// v_i. "Conditions b, c and d each with its own v_i" in form 2.
+    fn range(&self, generation: usize) -> u64 {
+        match has_t_ranges(self.form) {
+            true => self.ranges[generation - 1],
+            false => self.ranges[0],
+        }
     }
 
     /// 2^m − 1, the value of an erased group.
@@ -61,7 +101,8 @@ impl Shape {
     }
 
     /// Document 01's "k from 0", and in form 1 "generation 1 writes k from 1, and
-    /// the sum in condition b starts at 1".
+    /// the sum in condition b starts at 1". Form 2 has the "first generation as in
+    /// form 1".
     fn fewest_at_first(&self) -> usize {
         match self.form {
             0 => 0,
@@ -95,8 +136,13 @@ impl Layout {
         self.count(1)
     }
 
-    pub fn range(&self) -> u64 {
-        self.shape.v
+    /// The range of a generation.
+    pub fn range(&self, generation: usize) -> u64 {
+        self.shape.range(generation)
+    }
+
+    pub fn has_one_range(&self) -> bool {
+        !has_t_ranges(self.shape.form)
     }
 
     pub fn erased(&self) -> u64 {
@@ -145,7 +191,7 @@ pub struct Layouts {
 }
 
 impl Layouts {
-    pub fn grant(&mut self, shape: Shape, offered: u64) -> Result<Layout, Refusal> {
+    pub fn grant(&mut self, shape: &Shape, offered: u64) -> Result<Layout, Refusal> {
         if !shape.is_within_bounds() || !OFFERED_BOUNDS.contains(&offered) {
             return Err(Refusal::OutOfBounds);
         }
@@ -158,13 +204,15 @@ impl Layouts {
         }
     }
 
-    fn least(&mut self, shape: Shape) -> Layout {
-        if let Some(layout) = self.known.get(&shape) {
+    fn least(&mut self, shape: &Shape) -> Layout {
+        if let Some(layout) = self.known.get(shape) {
             return layout.clone();
         }
-        let counts = least_list(shape, &mut self.counting);
-        let layout = Layout { shape, counts };
-        self.known.insert(shape, layout.clone());
+        let layout = Layout {
+            shape: shape.clone(),
+            counts: least_list(shape, &mut self.counting),
+        };
+        self.known.insert(shape.clone(), layout.clone());
         layout
     }
 }
@@ -178,19 +226,23 @@ fn last_room(erased: u64, count: usize) -> Whole {
 
 /// From the last count upward: a lower h_(i+1) leaves more patterns to the same
 /// h_i, so the least h_(i+1) never costs a higher h_i, and every count of this
-/// list is the least there is.
-fn least_list(shape: Shape, counting: &mut Counting) -> Vec<usize> {
+/// list is the least there is. Each count is sought from the next one on, since with
+/// unequal ranges a step may be longer than the one before or shorter.
+fn least_list(shape: &Shape, counting: &mut Counting) -> Vec<usize> {
     let erased = shape.erased();
-    let range = Whole::from(shape.v);
+    let t = shape.t as usize;
+    let range = Whole::from(shape.range(t));
     let last = least_count_from(1, |count| last_room(erased, count) >= range);
     let mut from_last = vec![last];
     let mut next = last;
-    for _ in 2..shape.t {
+    for generation in (2..t).rev() {
+        let range = Whole::from(shape.range(generation));
         next = least_count_from(next + 1, |count| {
             Deal::middle(erased, count, next).room(counting) >= range
         });
         from_last.push(next);
     }
+    let range = Whole::from(shape.range(1));
     let fewest = shape.fewest_at_first();
     from_last.push(least_count_from(next + 1, |count| {
         Deal::first(erased, count, next, fewest).room(counting) >= range

@@ -23,7 +23,7 @@ pub struct ManyWritten {
 /// Refusals before any write in the order 14, 1, 2, 3, where 3 is about the length
 /// alone. Fields are then refused as single writes are, each when it is reached.
 pub fn write_many(
-    shape: Shape,
+    shape: &Shape,
     numbers: &[u64],
     cells: &[u8],
     layouts: &mut Layouts,

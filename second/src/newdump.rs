@@ -1,67 +1,32 @@
 //! "Layouts said once" (document 02, §3): the dump that lists its layouts before its
-//! records, its walk, the moves from and to old dumps, and export for it.
+//! records, its walk, the moves from and to old dumps, and export for it. By §7 a layout
+//! of form 2 is listed with all of its ranges.
 
 use crate::cells;
 use crate::dump::{self, Ending, Unread, LARGEST_SERIAL, LONGEST_DUMP};
 use crate::field::{self, Reading};
-use crate::layout::{Layouts, OldShape, Shape, GROUPS_OFFERED};
+use crate::layout::{self, Layouts, OldShape, Shape, GENERATION_BOUNDS, GROUPS_OFFERED};
 use crate::refusal::Refusal;
 use crate::storing::store_in_front;
 
 /// "The count of layouts (at most 64)".
 pub const MOST_LAYOUTS: usize = 64;
 
-/// "Form, m, t, v of each": a layout as a dump lists it, within its bounds or not.
-/// v is a list of ranges, of which these forms have one.
-#[derive(Clone, Debug, PartialEq, Eq)]
-pub struct Listed {
-    pub form: u64,
-    pub m: u64,
-    pub t: u64,
-    pub ranges: Vec<u64>,
+/// A layout's numbers as a dump lists them, within their bounds or not: "form, m, t, v of
+/// each", and in form 2 "form, m, t and then t ranges".
+pub fn listed_numbers(layout: &Shape) -> Vec<u64> {
+    [&[layout.form, layout.m, layout.t], &layout.ranges[..]].concat()
 }
 
-impl Listed {
-    pub fn shape(&self) -> Shape {
-        Shape {
-            form: self.form,
-            m: self.m,
-            t: self.t,
-            v: self.ranges[0],
-        }
-    }
-
-    /// Nothing for "a listed form that the old dump cannot hold".
-    fn old_shape(&self) -> Option<OldShape> {
-        let Shape { form, m, t, v } = self.shape();
-        match form {
-            0 => Some(OldShape { m, t, v }),
-            _ => None,
-        }
-    }
-
-    pub fn bytes(&self) -> Vec<u8> {
-        let numbers = [self.form, self.m, self.t].into_iter();
-        let numbers = numbers.chain(self.ranges.iter().copied());
-        numbers.flat_map(dump::number_bytes).collect()
-    }
-}
-
-impl From<Shape> for Listed {
-    fn from(shape: Shape) -> Listed {
-        Listed {
-            form: shape.form,
-            m: shape.m,
-            t: shape.t,
-            ranges: vec![shape.v],
-        }
-    }
+pub fn listed_bytes(layout: &Shape) -> Vec<u8> {
+    let numbers = listed_numbers(layout).into_iter();
+    numbers.flat_map(dump::number_bytes).collect()
 }
 
 /// The count of layouts and each of them.
-pub fn list_bytes(listed: &[Listed]) -> Vec<u8> {
+pub fn list_bytes(listed: &[Shape]) -> Vec<u8> {
     let mut list = dump::number_bytes(listed.len() as u64);
-    list.extend(listed.iter().flat_map(Listed::bytes));
+    list.extend(listed.iter().flat_map(listed_bytes));
     list
 }
 
@@ -76,7 +41,7 @@ pub struct Record<'dump> {
     pub serial: u64,
     /// Which of the listed layouts it has.
     pub number: usize,
-    pub layout: Listed,
+    pub layout: Shape,
     pub start: usize,
     pub cells: &'dump [u8],
     /// Refusals 1, 2, 3, 11, 15 and 16 belong to the record and the walk goes on.
@@ -85,7 +50,7 @@ pub struct Record<'dump> {
 
 #[derive(Clone, Debug, PartialEq, Eq)]
 pub struct Walk<'dump> {
-    pub listed: Vec<Listed>,
+    pub listed: Vec<Shape>,
     pub records: Vec<Record<'dump>>,
     pub ending: Ending,
 }
@@ -104,7 +69,7 @@ pub fn walk<'dump>(dump: &'dump [u8], layouts: &mut Layouts) -> Walk<'dump> {
             number: record.head.number,
             start: record.start,
             cells: record.cells,
-            outcome: field::read(layout.shape(), record.cells, layouts),
+            outcome: field::read(&layout, record.cells, layouts),
             layout,
         }
     };
@@ -118,7 +83,7 @@ pub fn walk<'dump>(dump: &'dump [u8], layouts: &mut Layouts) -> Walk<'dump> {
 
 /// A new dump's list and its records, no cells read.
 struct Unwalked<'dump> {
-    listed: Vec<Listed>,
+    listed: Vec<Shape>,
     records: Vec<Unread<'dump, Head>>,
     ending: Ending,
 }
@@ -154,8 +119,8 @@ fn unwalked(dump: &[u8]) -> Unwalked<'_> {
 }
 
 /// The layout list and what follows it; nothing where it is broken. Its numbers may
-/// be out of bounds: that is for the records which use them.
-fn list_in_front(bytes: &[u8]) -> Option<(Vec<Listed>, &[u8])> {
+/// be out of bounds, but for t in form 2: that is for the records which use them.
+fn list_in_front(bytes: &[u8]) -> Option<(Vec<Shape>, &[u8])> {
     let (count, mut rest) = dump::number_in_front(bytes)?;
     if count > MOST_LAYOUTS as u64 {
         return None;
@@ -169,12 +134,27 @@ fn list_in_front(bytes: &[u8]) -> Option<(Vec<Listed>, &[u8])> {
     Some((listed, rest))
 }
 
-fn listed_in_front(bytes: &[u8]) -> Option<(Listed, &[u8])> {
+fn listed_in_front(bytes: &[u8]) -> Option<(Shape, &[u8])> {
     let (form, bytes) = dump::number_in_front(bytes)?;
     let (m, bytes) = dump::number_in_front(bytes)?;
-    let (t, bytes) = dump::number_in_front(bytes)?;
-    let (v, bytes) = dump::number_in_front(bytes)?;
-    Some((Shape { form, m, t, v }.into(), bytes))
+    let (t, mut rest) = dump::number_in_front(bytes)?;
+    let mut ranges = Vec::new();
+    for _ in 0..ranges_listed(form, t)? {
+        let (range, after) = dump::number_in_front(rest)?;
+        ranges.push(range);
+        rest = after;
+    }
+    Some((Shape { form, m, t, ranges }, rest))
+}
+
+/// How many ranges stand behind t. Nothing for form 2 with a t that no layout has: "in a
+/// dump, t outside 2 to 16 here is a broken layout list".
+fn ranges_listed(form: u64, t: u64) -> Option<u64> {
+    match layout::has_t_ranges(form) {
+        true if GENERATION_BOUNDS.contains(&t) => Some(t),
+        true => None,
+        false => Some(1),
+    }
 }
 
 /// "A layout number out of the list counting as 7".
@@ -220,7 +200,7 @@ pub fn moved_to_new(dump: &[u8]) -> Result<Vec<u8>, Refusal> {
     if used.len() > MOST_LAYOUTS {
         return Err(Refusal::TooManyLayouts);
     }
-    let listed: Vec<Listed> = used.iter().map(|shape| shape.in_form_0().into()).collect();
+    let listed: Vec<Shape> = used.iter().map(|shape| shape.in_form_0()).collect();
     no_longer_than_a_dump([list_bytes(&listed), moved].concat())
 }
 
@@ -228,13 +208,22 @@ pub fn moved_to_new(dump: &[u8]) -> Result<Vec<u8>, Refusal> {
 pub fn moved_to_old(dump: &[u8]) -> Result<Vec<u8>, Refusal> {
     let unwalked = unwalked(dump);
     refuse_stopped(unwalked.ending)?;
-    let shapes: Option<Vec<OldShape>> = unwalked.listed.iter().map(Listed::old_shape).collect();
+    let shapes: Option<Vec<OldShape>> = unwalked.listed.iter().map(old_shape_of).collect();
     let shapes = shapes.ok_or(Refusal::FormNotHeld)?;
     let in_old = |record: &Unread<Head>| {
         let shape = shapes[record.head.number];
         dump::record_bytes(record.head.serial, shape, record.cells)
     };
     no_longer_than_a_dump(unwalked.records.iter().flat_map(in_old).collect())
+}
+
+/// Nothing for "a listed form that the old dump cannot hold".
+fn old_shape_of(listed: &Shape) -> Option<OldShape> {
+    let Shape { form, m, t, .. } = *listed;
+    match (form, &listed.ranges[..]) {
+        (0, [v]) => Some(OldShape { m, t, v: *v }),
+        _ => None,
+    }
 }
 
 /// "7 and 8 first".
@@ -255,17 +244,17 @@ fn no_longer_than_a_dump(moved: Vec<u8>) -> Result<Vec<u8>, Refusal> {
 
 /// One layout for the list. Refusals in the order 1, 2, 9.
 pub fn export_layout(
-    shape: Shape,
+    shape: &Shape,
     output: &mut [u8],
     layouts: &mut Layouts,
 ) -> Result<usize, Refusal> {
     layouts.grant(shape, GROUPS_OFFERED)?;
-    store_in_front(&Listed::from(shape).bytes(), output)
+    store_in_front(&listed_bytes(shape), output)
 }
 
 /// What a board gives of a record: the shape is that of the layout with this number
 /// in its list.
-#[derive(Clone, Copy, Debug, PartialEq, Eq)]
+#[derive(Clone, Debug, PartialEq, Eq)]
 pub struct Exported {
     pub serial: u64,
     pub number: u64,
@@ -275,7 +264,7 @@ pub struct Exported {
 /// One record. Refusals in the order 10, 1, 2, 3, 9; a layout number that no list
 /// has is out of bounds too.
 pub fn export_record(
-    exported: Exported,
+    exported: &Exported,
     cells: &[u8],
     output: &mut [u8],
     layouts: &mut Layouts,
@@ -286,7 +275,7 @@ pub fn export_record(
     if exported.number >= MOST_LAYOUTS as u64 {
         return Err(Refusal::OutOfBounds);
     }
-    let layout = layouts.grant(exported.shape, GROUPS_OFFERED)?;
+    let layout = layouts.grant(&exported.shape, GROUPS_OFFERED)?;
     cells::groups_of(&layout, cells)?;
     let record = record_bytes(exported.serial, exported.number, cells);
     store_in_front(&record, output)

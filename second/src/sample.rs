@@ -5,7 +5,7 @@ use crate::cells;
 use crate::dump;
 use crate::field;
 use crate::layout::{Layouts, OldShape, Shape, GROUPS_OFFERED};
-use crate::newdump::{self, Listed};
+use crate::newdump;
 use crate::refusal::Refusal;
 
 const COUNTER: OldShape = OldShape {
@@ -32,8 +32,8 @@ pub fn sample_dump(layouts: &mut Layouts) -> Result<Vec<u8>, Refusal> {
 
 /// The records of the old sample in their order, then the new drives.
 pub fn sample_new_dump(layouts: &mut Layouts) -> Result<Vec<u8>, Refusal> {
-    let shapes = [COUNTER.in_form_0(), SMALL.in_form_0(), new_counter()];
-    let mut dump = newdump::list_bytes(&shapes.map(Listed::from));
+    let shapes = [COUNTER.in_form_0(), SMALL.in_form_0(), COUNTER.in_form(1)];
+    let mut dump = newdump::list_bytes(&shapes);
     for (serial, cells) in drives_in_service(layouts)? {
         dump.extend(newdump::record_bytes(serial, 0, &cells));
     }
@@ -45,16 +45,9 @@ pub fn sample_new_dump(layouts: &mut Layouts) -> Result<Vec<u8>, Refusal> {
     Ok(dump)
 }
 
-fn new_counter() -> Shape {
-    Shape {
-        form: 1,
-        ..COUNTER.in_form_0()
-    }
-}
-
 /// Readable, blank, spent and damaged fields of the 278-wit counter.
 fn drives_in_service(layouts: &mut Layouts) -> Result<Vec<Field>, Refusal> {
-    let mut after = |numbers: &[u64]| cells_after(COUNTER.in_form_0(), numbers, layouts);
+    let mut after = |numbers: &[u64]| cells_after(&COUNTER.in_form_0(), numbers, layouts);
     let spent: Vec<u64> = (1..=10).map(|month| 41_870 + 113 * month).collect();
     let mut damaged = after(&[512_004, 512_377])?;
     damaged[17] |= 0x0c;
@@ -70,7 +63,7 @@ fn drives_in_service(layouts: &mut Layouts) -> Result<Vec<Field>, Refusal> {
 
 /// One that has not reported yet, one that has reported a 0, and one further on.
 fn new_drives(layouts: &mut Layouts) -> Result<Vec<Field>, Refusal> {
-    let mut after = |numbers: &[u64]| cells_after(new_counter(), numbers, layouts);
+    let mut after = |numbers: &[u64]| cells_after(&COUNTER.in_form(1), numbers, layouts);
     Ok(vec![
         (5001, after(&[])?),
         (5002, after(&[0])?),
@@ -78,7 +71,7 @@ fn new_drives(layouts: &mut Layouts) -> Result<Vec<Field>, Refusal> {
     ])
 }
 
-fn cells_after(shape: Shape, numbers: &[u64], layouts: &mut Layouts) -> Result<Vec<u8>, Refusal> {
+fn cells_after(shape: &Shape, numbers: &[u64], layouts: &mut Layouts) -> Result<Vec<u8>, Refusal> {
     let layout = layouts.grant(shape, GROUPS_OFFERED)?;
     let mut cells = vec![0; cells::byte_count(&layout)];
     for number in numbers {

@@ -1,7 +1,7 @@
 //! 003's figures as the conditions give them, to be laid beside the paper.
 
 use crate::counting::Counting;
-use crate::layout::{Layout, Layouts, Shape, GROUPS_OFFERED};
+use crate::layout::{Layout, Layouts, OldShape, GROUPS_OFFERED};
 
 const PUBLISHED_RANGE: u64 = 1 << 56;
 
@@ -21,8 +21,8 @@ pub fn figures(layouts: &mut Layouts) -> String {
 
 fn figure(m: u64, t: u64, layouts: &mut Layouts) -> String {
     let v = PUBLISHED_RANGE;
-    let shape = Shape { form: 0, m, t, v };
-    match layouts.grant(shape, GROUPS_OFFERED) {
+    let shape = OldShape { m, t, v }.in_form_0();
+    match layouts.grant(&shape, GROUPS_OFFERED) {
         Ok(layout) => format!("{} {} {}: {}, {}\n", m, t, v, list(&layout), layout.wits()),
         Err(refusal) => format!("{} {} {}: refused {}\n", m, t, v, refusal.number()),
     }

@@ -3,12 +3,12 @@
 
 use second::cells;
 use second::field;
-use second::layout::{Layout, Layouts, Shape};
+use second::layout::{Layout, Layouts, OldShape, Shape};
 use second::refusal::Refusal;
 use std::collections::{HashMap, HashSet};
+use std::ops::Range;
 
-const DRIVES: Shape = Shape {
-    form: 0,
+const DRIVES: OldShape = OldShape {
     m: 2,
     t: 10,
     v: 1 << 56,
@@ -25,10 +25,10 @@ struct Write {
 }
 
 impl Write {
-    fn new(shape: Shape, number: u64, before: &[u8], layouts: &mut Layouts) -> Option<Write> {
+    fn new(shape: &Shape, number: u64, before: &[u8], layouts: &mut Layouts) -> Option<Write> {
         let written = field::write(shape, number, before, layouts).ok()?;
         Some(Write {
-            shape,
+            shape: shape.clone(),
             layout: layouts.grant(shape, 256).ok()?,
             generation: written.generation - 1,
             number,
@@ -59,7 +59,7 @@ impl Write {
         for wit in turned {
             cut[wit / 8] |= bit(*wit);
         }
-        let mut read = |cells: &[u8]| field::read(self.shape, cells, layouts);
+        let mut read = |cells: &[u8]| field::read(&self.shape, cells, layouts);
         match read(&cut) {
             Ok(reading) => {
                 assert_ne!(read(&self.before), Ok(reading));
@@ -107,14 +107,19 @@ fn is_between_counts(layout: &Layout, generation: usize, unerased: usize) -> boo
     }
 }
 
+/// All that some generation takes.
+fn numbers(shape: &Shape) -> Range<u64> {
+    0..shape.ranges.iter().copied().max().unwrap_or(0)
+}
+
 /// Every state that writes from blank cells lead to.
-fn states(shape: Shape, layouts: &mut Layouts) -> HashSet<Vec<u8>> {
+fn states(shape: &Shape, layouts: &mut Layouts) -> HashSet<Vec<u8>> {
     let layout = layouts.grant(shape, 256).expect("a list that fits");
     let mut states = HashSet::new();
     let mut found = vec![vec![0; cells::byte_count(&layout)]];
     while let Some(cells) = found.pop() {
         if states.insert(cells.clone()) {
-            let writes = (0..shape.v).filter_map(|number| {
+            let writes = numbers(shape).filter_map(|number| {
                 let written = field::write(shape, number, &cells, layouts).ok();
                 written.map(|written| written.cells)
             });
@@ -135,11 +140,14 @@ fn every_cut_of_every_write_of_small_fields() {
         (3, 5, 6),
         (4, 3, 40),
     ];
-    let in_both_forms = |(m, t, v)| [0, 1].map(|form| Shape { form, m, t, v });
-    for shape in fields.into_iter().flat_map(in_both_forms) {
-        for before in states(shape, &mut layouts) {
-            for number in 0..shape.v {
-                if let Some(write) = Write::new(shape, number, &before, &mut layouts) {
+    let in_both_forms = |(m, t, v)| [0, 1].map(|form| OldShape { m, t, v }.in_form(form));
+    let of_ranges: [&[u64]; 3] = [&[20, 4, 2], &[2, 4, 20], &[9, 5, 3, 2]];
+    let of_form_2 = of_ranges.map(|ranges| Shape::of_ranges(2, ranges));
+    let of_one_range = fields.into_iter().flat_map(in_both_forms);
+    for shape in of_one_range.chain(of_form_2) {
+        for before in states(&shape, &mut layouts) {
+            for number in numbers(&shape) {
+                if let Some(write) = Write::new(&shape, number, &before, &mut layouts) {
                     check_every_cut(&write, &mut layouts);
                 }
             }
@@ -163,7 +171,8 @@ fn scattered(place: u64) -> u64 {
 
 /// Writes from blank cells to the last generation, of numbers from all over the range or
 /// such as counters have.
-fn chain(shape: Shape, seed: u64, is_counter: bool, layouts: &mut Layouts) -> Vec<Write> {
+fn chain(old: OldShape, seed: u64, is_counter: bool, layouts: &mut Layouts) -> Vec<Write> {
+    let shape = &old.in_form_0();
     let layout = layouts.grant(shape, 256).expect("a list that fits");
     let mut cells = vec![0; cells::byte_count(&layout)];
     let mut writes = Vec::new();
@@ -172,7 +181,7 @@ fn chain(shape: Shape, seed: u64, is_counter: bool, layouts: &mut Layouts) -> Ve
             true => 100_000 + 20_000 * place + scattered(seed + place) % 20_000,
             false => scattered(seed + place),
         };
-        let write = Write::new(shape, number % shape.v, &cells, layouts);
+        let write = Write::new(shape, number % old.v, &cells, layouts);
         let write = write.expect("generations are left");
         cells = write.after.clone();
         writes.push(write);
@@ -180,7 +189,7 @@ fn chain(shape: Shape, seed: u64, is_counter: bool, layouts: &mut Layouts) -> Ve
     writes
 }
 
-fn chains(shape: Shape, is_counter: bool, layouts: &mut Layouts) -> Vec<Write> {
+fn chains(shape: OldShape, is_counter: bool, layouts: &mut Layouts) -> Vec<Write> {
     let seeds = (0..20).map(|chain| 100 * chain);
     let writes = seeds.flat_map(|seed| chain(shape, seed, is_counter, layouts));
     writes.collect()
@@ -225,13 +234,14 @@ fn cuts_of_the_drives_field_in_any_order() {
 }
 
 /// Layouts whose fields are as many bytes as the drives'.
-fn other_shapes(layouts: &mut Layouts) -> Vec<Shape> {
+fn other_shapes(layouts: &mut Layouts) -> Vec<OldShape> {
     let with_ranges = |(m, t)| (1..=56).map(move |bits| (m, t, 1 << bits));
     let in_bounds = (2..=4).flat_map(|m| (2..=16).map(move |t| (m, t)));
     let shapes = in_bounds.flat_map(with_ranges);
-    let shapes = shapes.map(|(m, t, v)| Shape { form: 0, m, t, v });
-    let is_as_long = |shape: &Shape| {
-        let layout = layouts.grant(*shape, 256).expect("a list that fits");
+    let shapes = shapes.map(|(m, t, v)| OldShape { m, t, v });
+    let is_as_long = |shape: &OldShape| {
+        let layout = layouts.grant(&shape.in_form_0(), 256);
+        let layout = layout.expect("a list that fits");
         cells::byte_count(&layout) == 35 && *shape != DRIVES
     };
     shapes.filter(is_as_long).collect()
@@ -246,7 +256,7 @@ fn cells_of_another_layout() {
         let mut all = 0;
         for shape in other_shapes(&mut layouts) {
             for write in chains(shape, is_counter, &mut layouts) {
-                let refusal = field::read(DRIVES, &write.after, &mut layouts).err();
+                let refusal = field::read(&DRIVES.in_form_0(), &write.after, &mut layouts).err();
                 *met.entry(refusal.map_or(0, Refusal::number)).or_default() += 1;
                 all += 1;
             }
@@ -262,7 +272,7 @@ fn cells_of_another_layout() {
 fn kind_of_bad(write: &Write, wit: usize, layouts: &mut Layouts) -> &'static str {
     let mut bad = write.after.clone();
     bad[wit / 8] |= bit(wit);
-    match field::read(DRIVES, &bad, layouts) {
+    match field::read(&write.shape, &bad, layouts) {
         Ok(_) => "a number",
         Err(Refusal::Miscounted {
             generation,

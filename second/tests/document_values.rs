@@ -2,27 +2,27 @@
 
 mod common;
 
-use common::{beyond, miscounted, read, reading, write, written};
+use common::{beyond, miscounted, reading, written};
 use second::dump::{self, Ending};
-use second::layout::{Layouts, Shape};
+use second::field::{Reading, Written};
+use second::layout::{Layouts, OldShape};
 use second::listing::fieldlist;
 use second::refusal::Refusal;
 
-const RANGE_4: Shape = Shape {
-    form: 0,
-    m: 2,
-    t: 3,
-    v: 4,
-};
-const RANGE_20: Shape = Shape {
-    form: 0,
-    m: 2,
-    t: 2,
-    v: 20,
-};
+const RANGE_4: OldShape = OldShape { m: 2, t: 3, v: 4 };
+const RANGE_20: OldShape = OldShape { m: 2, t: 2, v: 20 };
+
+fn read(shape: OldShape, cells: &[u8]) -> Result<Reading, Refusal> {
+    common::read(&shape.in_form_0(), cells)
+}
+
+fn write(shape: OldShape, number: u64, cells: &[u8]) -> Result<Written, Refusal> {
+    common::write(&shape.in_form_0(), number, cells)
+}
 
 fn granted(m: u64, t: u64, v: u64, offered: u64) -> Result<Vec<usize>, Refusal> {
-    let layout = Layouts::default().grant(Shape { form: 0, m, t, v }, offered);
+    let shape = OldShape { m, t, v }.in_form_0();
+    let layout = Layouts::default().grant(&shape, offered);
     layout.map(|layout| layout.counts().to_vec())
 }
 
@@ -32,13 +32,8 @@ fn published_lists_of_the_layout_section() {
     assert_eq!(granted(2, 10, 1 << 56, 256), Ok(ten));
     assert_eq!(granted(2, 2, 1 << 56, 256), Ok(vec![49, 36]));
     assert_eq!(granted(3, 2, 1 << 56, 256), Ok(vec![31, 20]));
-    let shape = Shape {
-        form: 0,
-        m: 3,
-        t: 2,
-        v: 1 << 56,
-    };
-    let layout = Layouts::default().grant(shape, 256);
+    let (m, t, v) = (3, 2, 1 << 56);
+    let layout = Layouts::default().grant(&OldShape { m, t, v }.in_form_0(), 256);
     assert_eq!(layout.map(|layout| layout.wits()), Ok(93));
 }
 
@@ -118,7 +113,7 @@ fn a_serial_of_80_00_is_not_shortest() {
 
 #[test]
 fn refusals_come_in_the_order_of_the_table() {
-    let no_list = Shape { m: 1, ..RANGE_20 };
+    let no_list = OldShape { m: 1, ..RANGE_20 };
     assert_eq!(write(no_list, 99, &[]), Err(Refusal::OutOfBounds));
     assert_eq!(write(RANGE_20, 99, &[0]), Err(Refusal::WrongBytes));
     let unreadable = [0x02, 0x80];

@@ -2,48 +2,16 @@
 //! against a table made by listing the patterns one by one in the document's
 //! order, without the formula for ranks.
 
+#[path = "common/small_fields.rs"]
+mod small_fields;
+
 use second::field::{self, Reading, Written};
 use second::layout::{Layouts, Shape};
 use second::refusal::Refusal;
+use small_fields::{fields, Listed};
 use std::collections::HashMap;
 
 type Pattern = Vec<u64>;
-
-/// m, t, v and the list that goes with them in both forms, 16 wits at most.
-const FIELDS: [(u64, u64, u64, &[usize]); 14] = [
-    (2, 2, 2, &[2, 1]),
-    (2, 2, 20, &[5, 3]),
-    (2, 2, 80, &[6, 4]),
-    (2, 3, 4, &[4, 3, 2]),
-    (2, 3, 9, &[6, 5, 3]),
-    (2, 3, 30, &[8, 6, 4]),
-    (2, 4, 9, &[7, 6, 5, 3]),
-    (2, 8, 2, &[8, 7, 6, 5, 4, 3, 2, 1]),
-    (3, 2, 48, &[4, 2]),
-    (3, 5, 6, &[5, 4, 3, 2, 1]),
-    (4, 2, 14, &[2, 1]),
-    (4, 2, 200, &[4, 2]),
-    (4, 3, 40, &[4, 3, 2]),
-    (4, 4, 14, &[4, 3, 2, 1]),
-];
-
-/// The same behind a form, where v is a sum of condition b exactly.
-const FIELDS_OF_ONE_FORM: [(u64, u64, u64, u64, &[usize]); 7] = [
-    (0, 2, 2, 13, &[4, 3]),
-    (1, 2, 2, 13, &[5, 3]),
-    (0, 3, 2, 22, &[3, 2]),
-    (1, 3, 2, 22, &[4, 2]),
-    (0, 4, 2, 46, &[3, 2]),
-    (1, 4, 2, 46, &[4, 2]),
-    (0, 3, 3, 36, &[5, 4, 2]),
-];
-
-fn fields() -> Vec<(Shape, &'static [usize])> {
-    let in_form = |form: u64| FIELDS.map(|(m, t, v, counts)| (Shape { form, m, t, v }, counts));
-    let of_one =
-        FIELDS_OF_ONE_FORM.map(|(form, m, t, v, counts)| (Shape { form, m, t, v }, counts));
-    [&in_form(0)[..], &in_form(1), &of_one].concat()
-}
 
 /// One small field, with the patterns of each generation listed in order.
 struct Field {
@@ -55,15 +23,14 @@ struct Field {
 }
 
 impl Field {
-    fn new(shape: Shape, counts: &[usize]) -> Field {
-        let counts = counts.to_vec();
+    fn new((shape, counts): &Listed) -> Field {
         let generations = 1..=counts.len();
         let listed = generations
-            .map(|generation| patterns_in_order(shape, &counts, generation))
+            .map(|generation| patterns_in_order(shape, counts, generation))
             .collect();
         let mut field = Field {
-            shape,
-            counts,
+            shape: shape.clone(),
+            counts: counts.to_vec(),
             listed,
             readable: HashMap::new(),
         };
@@ -75,13 +42,28 @@ impl Field {
         (1 << self.shape.m) - 1
     }
 
+    fn range(&self, generation: usize) -> u64 {
+        match &self.shape.ranges[..] {
+            [v] => *v,
+            ranges => ranges[generation - 1],
+        }
+    }
+
+    fn longest_range(&self) -> u64 {
+        let longest = self.shape.ranges.iter().max();
+        *longest.expect("there is a range")
+    }
+
+    fn bytes(&self) -> usize {
+        (self.shape.m as usize * self.counts[0] + 7) / 8
+    }
+
     fn list_readable_buffers(&mut self) {
         for generation in 1..=self.counts.len() {
-            let in_range = self.listed[generation - 1]
-                .iter()
-                .take(self.shape.v as usize);
+            let range = self.range(generation) as usize;
+            let in_range = self.listed[generation - 1].iter().take(range);
             let in_range: Vec<Pattern> = in_range.cloned().collect();
-            assert_eq!(in_range.len() as u64, self.shape.v);
+            assert_eq!(in_range.len(), range);
             for places in choices(self.counts[0], self.counts[generation - 1]) {
                 for (number, pattern) in in_range.iter().enumerate() {
                     let cells = self.cells(&self.on_places(&places, pattern));
@@ -134,7 +116,7 @@ impl Field {
 
     fn reading_due(&self, cells: &[u8]) -> Result<Reading, Refusal> {
         let groups = self.groups(cells).ok_or(Refusal::WrongBytes)?;
-        if is_blank(cells) && self.shape.form == 1 {
+        if is_blank(cells) && self.shape.form > 0 {
             return Err(Refusal::Blank);
         }
         let (generation, number) = match self.readable.get(cells) {
@@ -188,18 +170,28 @@ impl Field {
         place.map(|place| place as u64)
     }
 
-    /// The section "Writing" with the pattern looked up in the list.
-    fn write_due(&self, cells: &[u8], number: u64) -> Result<Written, Refusal> {
-        let mut groups = self.groups(cells).ok_or(Refusal::WrongBytes)?;
-        if number >= self.shape.v {
-            return Err(Refusal::NumberOutOfRange);
-        }
+    /// The generation that takes a number.
+    fn generation_due(&self, cells: &[u8]) -> Result<usize, Refusal> {
         let generation = match is_blank(cells) {
             true => 1,
             false => self.reading_due(cells)?.generation + 1,
         };
-        if generation > self.counts.len() {
-            return Err(Refusal::LastGenerationUsed);
+        match generation > self.counts.len() {
+            true => Err(Refusal::LastGenerationUsed),
+            false => Ok(generation),
+        }
+    }
+
+    /// The section "Writing" with the pattern looked up in the list. In form 2 a number is
+    /// out of range by the generation that takes it, so that there has to be one.
+    fn write_due(&self, cells: &[u8], number: u64) -> Result<Written, Refusal> {
+        let mut groups = self.groups(cells).ok_or(Refusal::WrongBytes)?;
+        if self.shape.form < 2 && number >= self.range(1) {
+            return Err(Refusal::NumberOutOfRange);
+        }
+        let generation = self.generation_due(cells)?;
+        if number >= self.range(generation) {
+            return Err(Refusal::NumberOutOfRange);
         }
         for group in groups.iter_mut().filter(|group| **group != 0) {
             *group = self.erased();
@@ -244,7 +236,7 @@ fn value_strings(length: usize, low: u64, high: u64) -> Vec<Pattern> {
 }
 
 /// By number of written places, then by choice of places, then by values.
-fn patterns_in_order(shape: Shape, counts: &[usize], generation: usize) -> Vec<Pattern> {
+fn patterns_in_order(shape: &Shape, counts: &[usize], generation: usize) -> Vec<Pattern> {
     let places = counts[generation - 1];
     let nonzero = (1 << shape.m) - 1;
     let next = match counts.get(generation) {
@@ -253,7 +245,7 @@ fn patterns_in_order(shape: Shape, counts: &[usize], generation: usize) -> Vec<P
         None => return value_strings(places, 0, nonzero - 1).split_off(1),
     };
     let (fewest, highest) = match generation {
-        1 => (shape.form as usize, nonzero),
+        1 => (usize::from(shape.form > 0), nonzero),
         _ => (1, nonzero - 1),
     };
     let mut patterns = Vec::new();
@@ -279,8 +271,8 @@ fn every_buffer(bytes: usize) -> impl Iterator<Item = Vec<u8>> {
 }
 
 fn check_writes(field: &Field, cells: &[u8], layouts: &mut Layouts) {
-    for number in 0..=field.shape.v {
-        let written = field::write(field.shape, number, cells, layouts);
+    for number in 0..=field.longest_range() {
+        let written = field::write(&field.shape, number, cells, layouts);
         assert_eq!(written, field.write_due(cells, number));
         let written = match written {
             Ok(written) => written,
@@ -288,7 +280,7 @@ fn check_writes(field: &Field, cells: &[u8], layouts: &mut Layouts) {
         };
         let mut bytes = cells.iter().zip(&written.cells);
         assert!(bytes.all(|(before, after)| before & !after == 0));
-        let read_back = field::read(field.shape, &written.cells, layouts)
+        let read_back = field::read(&field.shape, &written.cells, layouts)
             .map(|reading| (reading.generation, reading.number));
         assert_eq!(read_back, Ok((written.generation, number)));
     }
@@ -297,21 +289,23 @@ fn check_writes(field: &Field, cells: &[u8], layouts: &mut Layouts) {
 #[test]
 fn every_buffer_of_small_fields() {
     let mut layouts = Layouts::default();
-    for (shape, counts) in fields() {
+    for listed in fields() {
+        let (shape, counts) = &listed;
         let granted = layouts
             .grant(shape, 256)
             .map(|layout| layout.counts().to_vec());
         assert_eq!(granted, Ok(counts.to_vec()));
-        let field = Field::new(shape, counts);
-        let bytes = (shape.m as usize * counts[0] + 7) / 8;
-        for cells in every_buffer(bytes) {
+        let field = Field::new(&listed);
+        for cells in every_buffer(field.bytes()) {
             let due = field.reading_due(&cells);
             assert_eq!(field::read(shape, &cells, &mut layouts), due, "{:?}", cells);
             if due.is_ok() || is_blank(&cells) {
                 check_writes(&field, &cells, &mut layouts);
             } else {
-                let refused = field::write(shape, 0, &cells, &mut layouts);
-                assert_eq!(refused, field.write_due(&cells, 0));
+                for number in [0, field.longest_range()] {
+                    let refused = field::write(shape, number, &cells, &mut layouts);
+                    assert_eq!(refused, field.write_due(&cells, number));
+                }
             }
         }
     }
@@ -321,7 +315,7 @@ fn every_buffer_of_small_fields() {
 /// of the buffer and to carry what its groups say.
 fn is_refused_rightly(field: &Field, cells: &[u8], layouts: &mut Layouts) -> bool {
     let groups = field.groups(cells).expect("no left-over bit is set");
-    match field::read(field.shape, cells, layouts) {
+    match field::read(&field.shape, cells, layouts) {
         Err(Refusal::Miscounted {
             generation,
             unerased,
@@ -335,7 +329,7 @@ fn is_refused_rightly(field: &Field, cells: &[u8], layouts: &mut Layouts) -> boo
         Err(Refusal::Beyond { generation }) => {
             assert!(field.points_to(generation, &groups));
             let number = field.listed_number(generation, &groups);
-            assert!(number.expect("a pattern is on the places") >= field.shape.v);
+            assert!(number.expect("a pattern is on the places") >= field.range(generation));
             true
         }
         _ => false,
@@ -343,15 +337,14 @@ fn is_refused_rightly(field: &Field, cells: &[u8], layouts: &mut Layouts) -> boo
 }
 
 /// Two refusals are there now where there was one, for cells that are no number of any
-/// generation. Of those, blank cells of form 1 are refused before.
+/// generation. Of those, blank cells of forms 1 and 2 are refused before.
 #[test]
 fn buffers_that_stand_for_no_number_are_miscounted_or_beyond() {
     let mut layouts = Layouts::default();
-    for (shape, counts) in fields() {
-        let field = Field::new(shape, counts);
-        let bytes = (shape.m as usize * counts[0] + 7) / 8;
-        let sound = every_buffer(bytes).filter(|cells| field.groups(cells).is_some());
-        for cells in sound.filter(|cells| shape.form == 0 || !is_blank(cells)) {
+    for listed in fields() {
+        let field = Field::new(&listed);
+        let sound = every_buffer(field.bytes()).filter(|cells| field.groups(cells).is_some());
+        for cells in sound.filter(|cells| field.shape.form == 0 || !is_blank(cells)) {
             let is_refused = is_refused_rightly(&field, &cells, &mut layouts);
             assert_eq!(is_refused, !field.readable.contains_key(&cells));
         }
@@ -361,13 +354,13 @@ fn buffers_that_stand_for_no_number_are_miscounted_or_beyond() {
 #[test]
 fn buffers_of_another_byte_count_are_refused() {
     let mut layouts = Layouts::default();
-    for (shape, counts) in fields() {
-        let due = (shape.m as usize * counts[0] + 7) / 8;
-        for count in (0..5).filter(|count| *count != due) {
+    for listed in fields() {
+        let field = Field::new(&listed);
+        for count in (0..5).filter(|count| *count != field.bytes()) {
             let cells = vec![0; count];
-            let read = field::read(shape, &cells, &mut layouts);
+            let read = field::read(&field.shape, &cells, &mut layouts);
             assert_eq!(read, Err(Refusal::WrongBytes));
-            let written = field::write(shape, 0, &cells, &mut layouts);
+            let written = field::write(&field.shape, 0, &cells, &mut layouts);
             assert_eq!(written, Err(Refusal::WrongBytes));
         }
     }

@@ -1,28 +1,26 @@
 //! What the HEX calls of made streams are sure to hold.
 
+#[path = "common/streams.rs"]
+mod streams;
+
 use second::answers;
 use second::hex;
 use second::layout::Layouts;
 use second::protocol::{Call, Limits};
-use second::stream::Maker;
 use std::collections::HashSet;
+use streams::calls;
 
 const CALLS: usize = 20_000;
 const END: &[u8] = b":00000001FF\n";
 
-fn calls(seed: u64, limits: Limits) -> Vec<Call> {
-    let mut maker = Maker::new(seed, limits);
-    (0..CALLS).map(|_| maker.call()).collect()
-}
-
 /// Texts of the usual calls of a stream.
 fn texts(seed: u64) -> Vec<Vec<u8>> {
-    let text_of = |call| match call {
-        Call::HexImport { text, .. } if text.len() < 60_000 => Some(text),
+    let text_of = |call: &Call| match call {
+        Call::HexImport { text, .. } if text.len() < 60_000 => Some(text.clone()),
         _ => None,
     };
     let calls = calls(seed, Limits::USUAL);
-    calls.into_iter().filter_map(text_of).collect()
+    calls.iter().filter_map(text_of).collect()
 }
 
 fn assert_met(met: &HashSet<String>, due: &[&str]) {
@@ -37,8 +35,9 @@ fn lines_of(text: &[u8]) -> impl Iterator<Item = &[u8]> {
 #[test]
 fn outputs_at_their_edges() {
     let mut met = HashSet::new();
-    for call in (1..3).flat_map(|seed| calls(seed, Limits::USUAL)) {
-        let (what, due, output_length) = match &call {
+    let both = [1, 2].map(|seed| calls(seed, Limits::USUAL));
+    for call in both.iter().flat_map(|calls| calls.iter()) {
+        let (what, due, output_length) = match call {
             Call::HexExport {
                 output_length,
                 bytes,
@@ -202,8 +201,9 @@ fn faults_of_every_kind() {
 
 /// The answers to the last calls of a stream, without the output's bytes.
 fn last_answers(seed: u64, limits: Limits, count: usize) -> Vec<String> {
-    let last = calls(seed, limits).split_off(CALLS - count);
-    let hex_calls = last.iter().take(count - 2);
+    let calls = calls(seed, limits);
+    let hex_calls = &calls[CALLS - count..CALLS - 2];
+    let hex_calls = hex_calls.iter();
     let answers = hex_calls.map(|call| answers::answer(call, &mut Layouts::default()));
     let without_output = |answer: String| match answer.split(' ').collect::<Vec<_>>()[..] {
         [call, "0", length, ..] => format!("{} 0 {}", call, length),
@@ -215,7 +215,7 @@ fn last_answers(seed: u64, limits: Limits, count: usize) -> Vec<String> {
 
 #[test]
 fn calls_of_full_size() {
-    for seed in [5, 6] {
+    for seed in [1, 2] {
         let usual = last_answers(seed, Limits::USUAL, 6);
         assert_eq!(usual, ["unhex 9", "unhex 0 1000", "hex 8", "hex 9"]);
         let large = last_answers(seed, Limits::LARGE, 13);
@@ -239,8 +239,7 @@ fn calls_of_full_size() {
 #[test]
 fn the_longest_texts_fill_a_call() {
     for limits in [Limits::USUAL, Limits::LARGE] {
-        let call = calls(1, limits).swap_remove(CALLS - 5);
-        match call {
+        match &calls(1, limits)[CALLS - 5] {
             Call::HexImport { text, .. } => assert_eq!(text.len() as u64, limits.bytes),
             _ => panic!("an import is due"),
         }

@@ -6,7 +6,7 @@ mod octets;
 use octets::octets;
 use second::dump;
 use second::layout::{Layouts, OldShape, Shape};
-use second::newdump::{self, Listed};
+use second::newdump;
 use second::refusal::Refusal;
 
 const OLD: &str = "07 02 03 04 01 4F AC 02 02 02 14 02 00 40 08 02 03 04 01 00 \
@@ -71,12 +71,10 @@ fn dumps_of_no_record() {
 fn listed_forms_that_the_old_dump_cannot_hold() {
     let unused = octets("02 00 02 03 04 01 02 03 04 07 00 01 4F");
     assert_eq!(to_old(&unused, 100), refused(Refusal::FormNotHeld, 100));
-    for form in [1, 2, 5, 127, 128, 256, 1 << 32, (1 << 63) - 1] {
-        let shape = Shape {
-            form,
-            ..SHAPE.in_form_0()
-        };
-        let list = newdump::list_bytes(&[shape.into()]);
+    let forms = [1, 3, 5, 127, 128, 256, 1 << 32, (1 << 63) - 1];
+    let of_one_range = forms.map(|form| SHAPE.in_form(form)).into_iter();
+    for shape in of_one_range.chain([Shape::of_ranges(2, &[20, 4, 2])]) {
+        let list = newdump::list_bytes(&[shape]);
         assert_eq!(to_old(&list, 0), refused(Refusal::FormNotHeld, 0));
         // Malformed comes before it, and a length that is too large first of all.
         let cut = [&list[..], &[7, 0, 1]].concat();
@@ -162,11 +160,11 @@ fn a_move_to_new_adds_three_bytes_for_the_first_layout_and_two_for_each_other() 
 
 #[test]
 fn an_old_dump_that_would_be_too_long() {
-    let shape = Shape {
+    let shape = OldShape {
         v: 1 << 56,
-        ..SHAPE.in_form_0()
+        ..SHAPE
     };
-    let list = newdump::list_bytes(&[shape.into()]);
+    let list = newdump::list_bytes(&[shape.in_form_0()]);
     // An old record has ten bytes more: eleven of m, t and v for one.
     let records = |count: usize| newdump::record_bytes(1, 0, &[0; 2]).repeat(count);
     let whole = 65_536 / 15;
@@ -231,11 +229,11 @@ fn back_and_there_gives_the_new_bytes_just_where_it_should() {
     let shapes = [(2, 3, 4), (2, 3, 5), (0, 300, 1 << 60)];
     let shape = |place: &usize| {
         let (m, t, v) = shapes[*place];
-        Listed::from(Shape { form: 0, m, t, v })
+        OldShape { m, t, v }.in_form_0()
     };
     let (mut same, mut others) = (0, 0);
     for layouts in (0..=3).flat_map(|count| lists(count, shapes.len())) {
-        let listed: Vec<Listed> = layouts.iter().map(shape).collect();
+        let listed: Vec<Shape> = layouts.iter().map(shape).collect();
         let most = if layouts.is_empty() { 0 } else { 4 };
         for numbers in (0..=most).flat_map(|count| lists(count, layouts.len())) {
             let mut new = newdump::list_bytes(&listed);
@@ -275,7 +273,7 @@ fn a_moved_dump_walks_to_the_same_records() {
         assert_eq!(before.records.len(), after.records.len());
         for (before, after) in before.records.iter().zip(&after.records) {
             assert_eq!(before.serial, after.serial);
-            assert_eq!(before.shape.in_form_0(), after.layout.shape());
+            assert_eq!(before.shape.in_form_0(), after.layout);
             assert_eq!(before.cells, after.cells);
             assert_eq!(before.outcome, after.outcome);
         }

@@ -36,13 +36,32 @@ impl Made {
     }
 
     fn with_a_layout(&self) -> Vec<Made> {
-        let mut ways = vec![self.clone()];
-        for _ in 0..4 {
-            let further = ways.iter().flat_map(Made::with_a_number);
-            ways = further.map(|(_, made)| made).collect();
+        let mut ways = Vec::new();
+        for (form, with_form) in self.with_a_number() {
+            for (_, with_m) in with_form.with_a_number() {
+                for (t, with_t) in with_m.with_a_number() {
+                    ways.extend(with_t.with_ranges(form, t));
+                }
+            }
         }
         for made in &mut ways {
             made.layouts += 1;
+        }
+        ways
+    }
+
+    /// One range, in form 2 as many as t says, and none that could be listed where it says
+    /// another number than 2 to 16.
+    fn with_ranges(&self, form: u64, t: u64) -> Vec<Made> {
+        let count = match (form, t) {
+            (2, 2..=16) => t,
+            (2, _) => return Vec::new(),
+            _ => 1,
+        };
+        let mut ways = vec![self.clone()];
+        for _ in 0..count {
+            let further = ways.iter().flat_map(Made::with_a_number);
+            ways = further.map(|(_, made)| made).collect();
         }
         ways
     }

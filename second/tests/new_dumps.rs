@@ -6,25 +6,15 @@ mod octets;
 use octets::octets;
 use second::dump::{self, Ending};
 use second::field::Reading;
-use second::layout::{Layouts, Shape};
+use second::layout::{Layouts, OldShape, Shape};
 use second::listing::{fieldlist, fieldlist_new};
-use second::newdump::{self, Listed};
+use second::newdump;
 use second::refusal::Refusal;
 use second::sample;
 
 const LARGEST: u64 = (1 << 63) - 1;
-const RANGE_4: Shape = Shape {
-    form: 0,
-    m: 2,
-    t: 3,
-    v: 4,
-};
-const RANGE_20: Shape = Shape {
-    form: 0,
-    m: 2,
-    t: 2,
-    v: 20,
-};
+const RANGE_4: OldShape = OldShape { m: 2, t: 3, v: 4 };
+const RANGE_20: OldShape = OldShape { m: 2, t: 2, v: 20 };
 /// Document 01's sample input, moved.
 const DOCUMENT_DUMP: &str = "02 00 02 03 04 00 02 02 14 07 00 01 4F AC 02 01 02 00 40 \
                              08 00 01 00 09 01 02 02 80";
@@ -43,8 +33,8 @@ fn ending(dump: &[u8]) -> (usize, Ending) {
     (walk.records.len(), walk.ending)
 }
 
-fn list(shapes: &[Shape]) -> Vec<u8> {
-    let listed: Vec<Listed> = shapes.iter().map(|shape| Listed::from(*shape)).collect();
+fn list(shapes: &[OldShape]) -> Vec<u8> {
+    let listed: Vec<Shape> = shapes.iter().map(|shape| shape.in_form_0()).collect();
     newdump::list_bytes(&listed)
 }
 
@@ -60,7 +50,7 @@ fn read(generation: usize, number: u64, left: usize) -> Result<Reading, Refusal>
 fn the_document_s_records_as_a_new_dump() {
     let dump = octets(DOCUMENT_DUMP);
     let walk = walk(&dump);
-    assert_eq!(walk.listed, [RANGE_4, RANGE_20].map(Listed::from));
+    assert_eq!(walk.listed, [RANGE_4, RANGE_20].map(OldShape::in_form_0));
     assert_eq!(walk.ending, Ending::EndOfDump);
     let found: Vec<_> = walk
         .records
@@ -74,7 +64,7 @@ fn the_document_s_records_as_a_new_dump() {
         (9, 1, 26, Err(Refusal::Beyond { generation: 1 })),
     ];
     assert_eq!(found, due);
-    assert_eq!(walk.records[1].layout, Listed::from(RANGE_20));
+    assert_eq!(walk.records[1].layout, RANGE_20.in_form_0());
     assert_eq!(walk.records[1].cells, [0x00, 0x40]);
     let due = "7 3 2 0\n300 1 1 1\n8 1 0 3\n9 refused 16\nrecords 4\n";
     assert_eq!(listing(&dump), due);
@@ -94,11 +84,10 @@ fn the_least_dump_is_a_count_of_0() {
 }
 
 #[test]
-fn a_form_above_1_is_the_record_s_refusal_1() {
-    let dump = octets("01 02 02 03 04 07 00 01 4F");
+fn a_form_above_2_is_the_record_s_refusal_1() {
+    let dump = octets("01 03 02 03 04 07 00 01 4F");
     let walk = walk(&dump);
-    let shape = Shape { form: 2, ..RANGE_4 };
-    assert_eq!(walk.listed, [Listed::from(shape)]);
+    assert_eq!(walk.listed, [RANGE_4.in_form(3)]);
     assert_eq!(walk.records.len(), 1);
     assert_eq!(walk.records[0].outcome, Err(Refusal::OutOfBounds));
     assert_eq!(listing(&dump), "7 refused 1\nrecords 1\n");
@@ -190,27 +179,19 @@ fn counts_of_layouts_up_to_64() {
 
 #[test]
 fn layouts_out_of_bounds_belong_to_the_records_that_use_them() {
-    let beyond = [
-        Shape { form: 2, ..RANGE_4 },
-        Shape {
-            form: LARGEST,
-            ..RANGE_4
-        },
-        Shape { m: 0, ..RANGE_4 },
-        Shape { m: 5, ..RANGE_4 },
-        Shape { t: 1, ..RANGE_4 },
-        Shape { t: 17, ..RANGE_4 },
-        Shape { v: 1, ..RANGE_4 },
-        Shape {
-            v: (1 << 56) + 1,
-            ..RANGE_4
-        },
-        Shape {
-            v: LARGEST,
-            ..RANGE_4
-        },
+    let of_form_0 = [
+        (0, 3, 4),
+        (5, 3, 4),
+        (2, 1, 4),
+        (2, 17, 4),
+        (2, 3, 1),
+        (2, 3, (1 << 56) + 1),
+        (2, 3, LARGEST),
     ];
-    let mut dump = list(&[&beyond[..], &[RANGE_4]].concat());
+    let of_form_0 = of_form_0.map(|(m, t, v)| OldShape { m, t, v }.in_form_0());
+    let of_no_form = [3, LARGEST].map(|form| RANGE_4.in_form(form));
+    let beyond = [&of_no_form[..], &of_form_0].concat();
+    let mut dump = newdump::list_bytes(&[&beyond[..], &[RANGE_4.in_form_0()]].concat());
     for number in (0..=beyond.len() as u64).rev() {
         dump.extend(newdump::record_bytes(number, number, &[0x4f]));
     }
@@ -223,12 +204,8 @@ fn layouts_out_of_bounds_belong_to_the_records_that_use_them() {
 
 #[test]
 fn refusals_of_form_1_belong_to_the_record() {
-    let form_1 = Shape {
-        form: 1,
-        ..RANGE_20
-    };
     let cells: [&[u8]; 5] = [&[0, 0], &[0, 1], &[0], &[0x02, 0x80], &[0xff, 0xc0]];
-    let mut dump = list(&[form_1]);
+    let mut dump = newdump::list_bytes(&[RANGE_20.in_form(1)]);
     for (serial, cells) in (0..).zip(cells) {
         dump.extend(newdump::record_bytes(serial, 0, cells));
     }

@@ -1,31 +1,19 @@
 //! What the calls on new dumps of made streams are sure to hold.
 
+#[path = "common/new_dump_calls.rs"]
+mod new_dump_calls;
+
+use new_dump_calls::{new_dump_calls, streams};
 use second::answers;
 use second::dump::{self, Ending};
 use second::layout::Layouts;
 use second::newdump;
 use second::protocol::{Call, Limits, NewDumpCall};
-use second::stream::Maker;
 use std::collections::HashSet;
 
-const CALLS: usize = 20_000;
 /// Of full size, for old dumps and HEX texts, behind those for new dumps.
 const CALLS_BEHIND: usize = 6;
 const LARGE_CALLS_BEHIND: usize = 13;
-
-fn all_calls(seed: u64, limits: Limits) -> Vec<Call> {
-    let mut maker = Maker::new(seed, limits);
-    (0..CALLS).map(|_| maker.call()).collect()
-}
-
-fn calls(seed: u64) -> Vec<NewDumpCall> {
-    let of_new_dumps = |call| match call {
-        Call::NewDump(call) => Some(call),
-        _ => None,
-    };
-    let calls = all_calls(seed, Limits::USUAL);
-    calls.into_iter().filter_map(of_new_dumps).collect()
-}
 
 fn answer(call: &NewDumpCall, layouts: &mut Layouts) -> String {
     answers::answer(&Call::NewDump(call.clone()), layouts)
@@ -40,6 +28,10 @@ fn assert_met(met: &HashSet<String>, due: &[&str]) {
 fn kind_of(line: &str) -> String {
     let words: Vec<&str> = line.split(' ').collect();
     match words[..] {
+        ["record", _, _, "2", _, t, ..] => {
+            let ranges: usize = t.parse().expect("t is a number");
+            format!("record {}", words[8 + ranges])
+        }
         ["record", _, _, _, _, _, _, _, _, outcome, ..] => format!("record {}", outcome),
         ["stop", "7", "0"] => "stop at the list".to_string(),
         [operation, refusal, ..] => format!("{} {}", operation, refusal),
@@ -83,7 +75,7 @@ fn every_kind_of_answer_is_met_often() {
     for seed in 0..2 {
         let mut layouts = Layouts::default();
         let mut met = Vec::new();
-        for call in calls(seed) {
+        for call in new_dump_calls(seed) {
             met.extend(answer(&call, &mut layouts).lines().map(kind_of));
         }
         for kind in KINDS {
@@ -93,97 +85,6 @@ fn every_kind_of_answer_is_met_often() {
         }
         assert!(met.iter().all(|kind| KINDS.contains(&kind.as_str())));
     }
-}
-
-/// How a number that is none is at fault.
-fn fault_of_number(bytes: &[u8]) -> &'static str {
-    let goes_on = bytes.iter().take_while(|byte| **byte & 0x80 != 0).count();
-    match goes_on {
-        9.. => "over nine",
-        _ if goes_on == bytes.len() => "cut off",
-        _ => "not shortest",
-    }
-}
-
-/// Takes as many numbers, or tells which one is at fault and how.
-fn numbers_in_front(count: usize, bytes: &[u8]) -> Result<(Vec<u64>, &[u8]), String> {
-    let mut rest = bytes;
-    let mut numbers = Vec::new();
-    for place in 0..count {
-        match dump::number_in_front(rest) {
-            Some((number, after)) => {
-                numbers.push(number);
-                rest = after;
-            }
-            None => return Err(format!("number {} {}", place, fault_of_number(rest))),
-        }
-    }
-    Ok((numbers, rest))
-}
-
-fn fault_of_list(dump: &[u8]) -> String {
-    let (count, behind) = match numbers_in_front(1, dump) {
-        Ok((numbers, behind)) => (numbers[0], behind),
-        Err(fault) => return format!("count: {}", fault),
-    };
-    if count > 64 {
-        return format!("count {}", count.min(128));
-    }
-    match numbers_in_front(4 * count as usize, behind) {
-        Ok(_) => panic!("the list is whole"),
-        Err(fault) => {
-            let words: Vec<&str> = fault.splitn(3, ' ').collect();
-            let place: usize = words[1].parse().expect("the number's place");
-            format!("layout: number {} {}", place % 4, words[2])
-        }
-    }
-}
-
-fn fault_of_record(record: &[u8], count: u64) -> String {
-    match numbers_in_front(3, record) {
-        Err(fault) => format!("record: {}", fault),
-        Ok((numbers, _)) if numbers[1] == count => "record: layout behind the last".to_string(),
-        Ok((numbers, _)) if numbers[1] > count => "record: layout beyond".to_string(),
-        Ok(_) => "record: cells cut off".to_string(),
-    }
-}
-
-#[test]
-fn new_dumps_are_malformed_in_every_way() {
-    let mut met = HashSet::new();
-    for call in calls(3).into_iter().chain(calls(4)) {
-        let dump = match call {
-            NewDumpCall::Walk { dump } => dump,
-            _ => continue,
-        };
-        let walk = newdump::walk(&dump, &mut Layouts::default());
-        met.insert(match walk.ending {
-            Ending::Malformed { offset: 0 } => fault_of_list(&dump),
-            Ending::Malformed { offset } => {
-                fault_of_record(&dump[offset..], walk.listed.len() as u64)
-            }
-            _ => continue,
-        });
-    }
-    for fault in ["cut off", "over nine", "not shortest"] {
-        assert_met(&met, &[&format!("count: number 0 {}", fault)]);
-        for place in 0..4 {
-            assert_met(&met, &[&format!("layout: number {} {}", place, fault)]);
-        }
-        for place in 0..3 {
-            assert_met(&met, &[&format!("record: number {} {}", place, fault)]);
-        }
-    }
-    let due = [
-        "count 65",
-        "count 66",
-        "count 127",
-        "count 128",
-        "record: layout behind the last",
-        "record: layout beyond",
-        "record: cells cut off",
-    ];
-    assert_met(&met, &due);
 }
 
 /// How many layouts a list has, which of them are used, and their forms.
@@ -206,7 +107,7 @@ fn kinds_of_list(walk: &newdump::Walk) -> Vec<String> {
 #[test]
 fn lists_of_every_kind_are_walked_to_their_end() {
     let mut met = HashSet::new();
-    for call in calls(5) {
+    for call in new_dump_calls(0) {
         if let NewDumpCall::Walk { dump } = call {
             let walk = newdump::walk(&dump, &mut Layouts::default());
             if walk.ending == Ending::EndOfDump {
@@ -249,7 +150,7 @@ fn made_and_room(call: &NewDumpCall) -> Option<(&'static str, usize, u64)> {
             shape,
             output_length,
         } => {
-            let listed = newdump::Listed::from(*shape).bytes();
+            let listed = newdump::listed_bytes(shape);
             Some(("listed", listed.len(), *output_length))
         }
         NewDumpCall::ExportRecord {
@@ -268,7 +169,7 @@ fn made_and_room(call: &NewDumpCall) -> Option<(&'static str, usize, u64)> {
 fn outputs_at_their_edges() {
     let mut met = HashSet::new();
     let mut layouts = Layouts::default();
-    for call in calls(6) {
+    for call in new_dump_calls(0) {
         let (word, made, room) = match made_and_room(&call) {
             Some(parts) => parts,
             None => continue,
@@ -296,7 +197,7 @@ fn outputs_at_their_edges() {
 #[test]
 fn moves_of_63_to_66_layouts() {
     let mut met = HashSet::new();
-    for call in calls(7) {
+    for call in new_dump_calls(1) {
         if let NewDumpCall::MoveToNew { dump, .. } = call {
             let records = dump::walk(&dump, &mut Layouts::default()).records;
             let mut shapes = Vec::new();
@@ -330,7 +231,7 @@ fn moves_of_63_to_66_layouts() {
 #[test]
 fn forms_that_cannot_move_back_are_used_and_unused() {
     let mut met = HashSet::new();
-    for call in calls(8) {
+    for call in new_dump_calls(1) {
         if let NewDumpCall::MoveToOld { dump, .. } = call {
             let walk = newdump::walk(&dump, &mut Layouts::default());
             if walk.ending == Ending::EndOfDump {
@@ -351,10 +252,9 @@ fn forms_that_cannot_move_back_are_used_and_unused() {
 /// The answers to the calls of full size, without the output's bytes, and of a walk
 /// its ending.
 fn full_size_answers(limits: Limits, count: usize, behind: usize) -> Vec<String> {
-    let mut calls = all_calls(1, limits);
-    calls.truncate(CALLS - behind);
-    let last = calls.split_off(calls.len() - count);
-    let answers = last
+    let calls = streams::calls(1, limits);
+    let end = calls.len() - behind;
+    let answers = calls[end - count..end]
         .iter()
         .map(|call| answers::answer(call, &mut Layouts::default()));
     let kind = |answer: String| match answer.split(' ').collect::<Vec<_>>()[..] {

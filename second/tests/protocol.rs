@@ -6,26 +6,20 @@ mod answering;
 use answering::{answered, answered_within, line_of};
 use second::comparing::{compare, Comparison, Stream};
 use second::dump;
-use second::layout::{OldShape, Shape};
+use second::layout::OldShape;
 use second::protocol::{self, Call, Limits, Step};
 use second::stream::Maker;
 
 const OLD_SHAPE: OldShape = OldShape { m: 2, t: 3, v: 4 };
-const SHAPE: Shape = Shape {
-    form: 0,
-    m: 2,
-    t: 3,
-    v: 4,
-};
 
 fn layout_call(v: u64, offered: u64) -> Call {
-    let shape = Shape { v, ..SHAPE };
+    let shape = OldShape { v, ..OLD_SHAPE }.in_form_0();
     Call::Layout { shape, offered }
 }
 
 fn write_call(number: u64, cells: &[u8]) -> Call {
     Call::Write {
-        shape: SHAPE,
+        shape: OLD_SHAPE.in_form_0(),
         number,
         cells: cells.to_vec(),
     }
@@ -33,7 +27,7 @@ fn write_call(number: u64, cells: &[u8]) -> Call {
 
 fn read_call(cells: &[u8]) -> Call {
     Call::Read {
-        shape: SHAPE,
+        shape: OLD_SHAPE.in_form_0(),
         cells: cells.to_vec(),
     }
 }
@@ -93,9 +87,11 @@ fn lines_of_forms() {
     assert_eq!(answer(1, read_call(&[0x00])), "read 11\n");
     assert_eq!(answer(1, read_call(&[0x01])), "read 0 1 0 2\n");
     assert_eq!(answer(1, write_call(0, &[0x00])), "write 0 1 1 01\n");
-    assert_eq!(answer(2, layout_call(4, 4)), "layout 1\n");
-    assert_eq!(answer(2, read_call(&[0x01])), "read 1\n");
-    assert_eq!(answer(2, write_call(0, &[0x00])), "write 1 00\n");
+    for form in [2, 3] {
+        assert_eq!(answer(form, layout_call(4, 4)), "layout 1\n");
+        assert_eq!(answer(form, read_call(&[0x01])), "read 1\n");
+        assert_eq!(answer(form, write_call(0, &[0x00])), "write 1 00\n");
+    }
 }
 
 #[test]
@@ -164,17 +160,23 @@ fn low_bytes(call: Call) -> Vec<u8> {
 
 #[test]
 fn the_form_stands_before_m_and_in_an_export_there_is_none() {
-    let shape = Shape { form: 1, ..SHAPE };
-    let (number, offered, cells) = (7, 9, Vec::new());
-    let layout = Call::Layout { shape, offered };
-    assert_eq!(low_bytes(layout), [1, 2, 3, 4, 9]);
-    let write = Call::Write {
-        shape,
-        number,
-        cells: cells.clone(),
+    let shape = || OLD_SHAPE.in_form(1);
+    let layout = Call::Layout {
+        shape: shape(),
+        offered: 9,
     };
-    assert_eq!(low_bytes(write), [1, 2, 3, 4, 7, 0]);
-    assert_eq!(low_bytes(Call::Read { shape, cells }), [1, 2, 3, 4, 0]);
+    assert_eq!(low_bytes(layout), [1, 2, 3, 1, 4, 9]);
+    let write = Call::Write {
+        shape: shape(),
+        number: 7,
+        cells: Vec::new(),
+    };
+    assert_eq!(low_bytes(write), [1, 2, 3, 1, 4, 7, 0]);
+    let read = Call::Read {
+        shape: shape(),
+        cells: Vec::new(),
+    };
+    assert_eq!(low_bytes(read), [1, 2, 3, 1, 4, 0]);
     assert_eq!(low_bytes(export_call(5, 6, &[])), [5, 2, 3, 4, 6, 0]);
 }
 

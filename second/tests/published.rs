@@ -2,7 +2,7 @@
 //! Theorem 2.
 
 use second::counting::Counting;
-use second::layout::{Layout, Layouts, Shape};
+use second::layout::{Layout, Layouts, OldShape, Shape};
 use second::values;
 use second::whole::Whole;
 
@@ -22,7 +22,7 @@ const TABLE: [(u64, usize, usize); 9] = [
 const EXAMPLE: [usize; 10] = [139, 130, 120, 110, 99, 88, 76, 64, 51, 36];
 
 fn granted(m: u64, t: u64, v: u64, layouts: &mut Layouts) -> Layout {
-    let layout = layouts.grant(Shape { form: 0, m, t, v }, 256);
+    let layout = layouts.grant(&OldShape { m, t, v }.in_form_0(), 256);
     layout.expect("the shape is within bounds and fits in 256 groups")
 }
 
@@ -99,9 +99,13 @@ fn condition_d_decides_where_equation_6_comes_close_to_a_power() {
 fn every_shape_within_bounds_fits_in_256_groups() {
     let layouts = &mut Layouts::default();
     let (t, v) = (16, 1 << 56);
-    for (form, m) in [(0, 2), (0, 3), (0, 4), (1, 2), (1, 3), (1, 4)] {
-        let layout = layouts.grant(Shape { form, m, t, v }, 256);
-        assert!(layout.is_ok());
+    for m in 2..=4 {
+        let of_one_range = OldShape { m, t, v };
+        // "Each count only grows with each range."
+        let longest = Shape::of_ranges(m, &[v; 16]);
+        for shape in [of_one_range.in_form(0), of_one_range.in_form(1), longest] {
+            assert!(layouts.grant(&shape, 256).is_ok());
+        }
     }
 }
 

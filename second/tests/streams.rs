@@ -1,18 +1,21 @@
 //! What the made streams are sure to hold.
 
+#[path = "common/streams.rs"]
+mod streams;
+
 use second::answers;
 use second::dump::{self, Ending};
 use second::field;
-use second::layout::{Layouts, Shape};
+use second::layout::{Layouts, OldShape, Shape};
 use second::protocol::{Call, Limits};
-use second::stream::{write_stream, Maker};
+use second::stream::write_stream;
 use std::collections::HashSet;
+use std::sync::Arc;
 
 const CALLS: usize = 20_000;
 
-fn calls(seed: u64) -> Vec<Call> {
-    let mut maker = Maker::new(seed, Limits::USUAL);
-    (0..CALLS).map(|_| maker.call()).collect()
+fn calls(seed: u64) -> Arc<Vec<Call>> {
+    streams::calls(seed, Limits::USUAL)
 }
 
 fn bytes(seed: u64) -> Vec<u8> {
@@ -38,8 +41,8 @@ fn calls_are_small_but_for_the_last_ones() {
     assert_eq!(large[1..4], [17 + 65_537, 17 + 65_537, 17 + 65_536]);
     assert_eq!(large[4..], [9 + 65_536, 9 + 65_537]);
     assert!((60_000..17 + 65_537).contains(&large[0]));
-    assert!(lengths.iter().all(|length| *length < 8_000));
-    assert!(lengths.iter().sum::<usize>() / lengths.len() < 150);
+    assert!(lengths.iter().all(|length| *length < 16_000));
+    assert!(lengths.iter().sum::<usize>() / lengths.len() < 180);
 }
 
 /// The first words of every line: the operation and its refusal, and for an
@@ -48,9 +51,9 @@ fn calls_are_small_but_for_the_last_ones() {
 fn kinds(seed: u64) -> HashSet<String> {
     let mut layouts = Layouts::default();
     let mut kinds = HashSet::new();
-    let is_told_here = |call: &Call| !matches!(call, Call::NewDump(_) | Call::Many(_));
-    for call in calls(seed).into_iter().filter(is_told_here) {
-        let answer = answers::answer(&call, &mut layouts);
+    let is_told_here = |call: &&Call| !matches!(call, Call::NewDump(_) | Call::Many(_));
+    for call in calls(seed).iter().filter(is_told_here) {
+        let answer = answers::answer(call, &mut layouts);
         for line in answer.lines() {
             let words: Vec<&str> = line.split(' ').collect();
             kinds.insert(match words[..] {
@@ -123,21 +126,21 @@ fn chains_go_from_blank_cells_to_the_end_and_past_it() {
     let mut refused_past_the_end = 0;
     let mut left_by_the_last = Vec::new();
     let mut length = 0;
-    for call in calls(3) {
+    for call in calls(1).iter() {
         if let Call::Write {
             shape,
             number,
             cells,
         } = call
         {
-            let follows = cells == left_by_the_last;
+            let follows = *cells == left_by_the_last;
             length = if follows { length + 1 } else { 1 };
-            match field::write(shape, number, &cells, &mut layouts) {
+            match field::write(shape, *number, cells, &mut layouts) {
                 Ok(written) => left_by_the_last = written.cells,
                 Err(refusal) => {
                     let is_past_end = refusal.number() == 5 && length > shape.t;
                     refused_past_the_end += usize::from(is_past_end);
-                    left_by_the_last = cells;
+                    left_by_the_last = cells.clone();
                 }
             }
         }
@@ -145,15 +148,19 @@ fn chains_go_from_blank_cells_to_the_end_and_past_it() {
     assert!(refused_past_the_end > 100);
 }
 
-fn shape_of(call: &Call) -> Option<Shape> {
-    match call {
-        Call::Layout { shape, .. } | Call::Read { shape, .. } | Call::Write { shape, .. } => {
-            Some(*shape)
-        }
-        Call::Export { shape, .. } => Some(shape.in_form_0()),
-        Call::Many(call) => Some(call.shape),
-        Call::Walk { .. } | Call::HexExport { .. } | Call::HexImport { .. } => None,
-        Call::NewDump(_) => None,
+/// The shape of a call in a form of one range.
+fn shape_of(call: &Call) -> Option<OldShape> {
+    let shape = match call {
+        Call::Layout { shape, .. } | Call::Read { shape, .. } | Call::Write { shape, .. } => shape,
+        Call::Export { shape, .. } => return Some(*shape),
+        Call::Many(call) => &call.shape,
+        Call::Walk { .. } | Call::HexExport { .. } | Call::HexImport { .. } => return None,
+        Call::NewDump(_) => return None,
+    };
+    let Shape { form, m, t, .. } = *shape;
+    match (form, &shape.ranges[..]) {
+        (0 | 1, [v]) => Some(OldShape { m, t, v: *v }),
+        _ => None,
     }
 }
 
@@ -161,14 +168,16 @@ fn shape_of(call: &Call) -> Option<Shape> {
 /// decides.
 #[test]
 fn every_boundary_of_m_t_and_v_is_met() {
-    let shapes: Vec<Shape> = calls(4).iter().filter_map(shape_of).collect();
+    let both = [1, 2].map(calls);
+    let calls = both.iter().flat_map(|calls| calls.iter());
+    let shapes: Vec<OldShape> = calls.filter_map(shape_of).collect();
     let (m_bounds, t_bounds, v_bounds) = (2..=4, 2..=16, 2..=1 << 56);
     for m in [0, 1, 2, 4, 5, (1 << 32) + 2, u64::MAX] {
-        let others = |shape: &Shape| t_bounds.contains(&shape.t) && v_bounds.contains(&shape.v);
+        let others = |shape: &OldShape| t_bounds.contains(&shape.t) && v_bounds.contains(&shape.v);
         assert!(shapes.iter().any(|shape| shape.m == m && others(shape)));
     }
     for t in [0, 1, 2, 15, 16, 17, (1 << 32) + 2, u64::MAX] {
-        let others = |shape: &Shape| m_bounds.contains(&shape.m) && v_bounds.contains(&shape.v);
+        let others = |shape: &OldShape| m_bounds.contains(&shape.m) && v_bounds.contains(&shape.v);
         assert!(shapes.iter().any(|shape| shape.t == t && others(shape)));
     }
     let most: u64 = 1 << 56;
@@ -183,7 +192,7 @@ fn every_boundary_of_m_t_and_v_is_met() {
         1 << 63,
         u64::MAX,
     ] {
-        let others = |shape: &Shape| m_bounds.contains(&shape.m) && t_bounds.contains(&shape.t);
+        let others = |shape: &OldShape| m_bounds.contains(&shape.m) && t_bounds.contains(&shape.t);
         assert!(shapes.iter().any(|shape| shape.v == v && others(shape)));
     }
 }
@@ -194,11 +203,16 @@ fn every_boundary_of_g_is_met() {
     let mut offers = HashSet::new();
     let mut above_the_first_count = HashSet::new();
     let mut ranges_where_the_list_changes = 0;
-    for call in calls(5) {
-        if let Call::Layout { shape, offered } = call {
-            offers.insert(offered);
-            let mut list = |v: u64| layouts.grant(Shape { v, ..shape }, 256);
-            if let (Ok(layout), Ok(next)) = (list(shape.v), list(shape.v.saturating_add(1))) {
+    for call in calls(2).iter() {
+        let one_range = shape_of(call).map(|shape| shape.v);
+        if let (Call::Layout { shape, offered }, Some(v)) = (call, one_range) {
+            offers.insert(*offered);
+            let mut list = |v: u64| {
+                let ranges = vec![v];
+                let shape = Shape { ranges, ..*shape };
+                layouts.grant(&shape, 256)
+            };
+            if let (Ok(layout), Ok(next)) = (list(v), list(v.saturating_add(1))) {
                 above_the_first_count.insert(offered.wrapping_sub(layout.groups() as u64));
                 ranges_where_the_list_changes += usize::from(layout.counts() != next.counts());
             }
@@ -218,9 +232,9 @@ fn every_boundary_of_g_is_met() {
 fn exports_and_left_over_bits_at_their_edges() {
     let mut layouts = Layouts::default();
     let mut met = HashSet::new();
-    for call in calls(6) {
-        let answer = answers::answer(&call, &mut layouts);
-        match &call {
+    for call in calls(1).iter() {
+        let answer = answers::answer(call, &mut layouts);
+        match call {
             Call::Export {
                 serial,
                 shape,
@@ -236,7 +250,7 @@ fn exports_and_left_over_bits_at_their_edges() {
                 met.insert(format!("serial {} {}", serial, first_words.join(" ")));
             }
             Call::Read { shape, cells } if answer == "read 3\n" => {
-                let layout = layouts.grant(*shape, 256).expect("refusal 3 comes after 2");
+                let layout = layouts.grant(shape, 256).expect("refusal 3 comes after 2");
                 let has_left_over_bit = cells.len() == (layout.wits() + 7) / 8;
                 met.insert(format!("left-over bit {}", has_left_over_bit));
             }
@@ -284,9 +298,9 @@ fn fault_of_record(record: &[u8]) -> String {
 #[test]
 fn records_are_malformed_in_every_way() {
     let mut met = HashSet::new();
-    for call in (7..9).flat_map(calls) {
+    for call in calls(1).iter().chain(calls(2).iter()) {
         if let Call::Walk { dump } = call {
-            let ending = dump::walk(&dump, &mut Layouts::default()).ending;
+            let ending = dump::walk(dump, &mut Layouts::default()).ending;
             if let Ending::Malformed { offset } = ending {
                 met.insert(fault_of_record(&dump[offset..]));
             }
@@ -307,9 +321,9 @@ fn records_are_malformed_in_every_way() {
 
 #[test]
 fn dumps_of_full_size_are_walked_nearly_to_their_end() {
-    for seed in 0..4 {
-        let full_size = calls(seed).swap_remove(CALLS - 2);
-        let answer = answers::answer(&full_size, &mut Layouts::default());
+    for seed in 1..3 {
+        let full_size = &calls(seed)[CALLS - 2];
+        let answer = answers::answer(full_size, &mut Layouts::default());
         let last_record = answer.lines().rev().nth(1).expect("a record and an ending");
         let words: Vec<&str> = last_record.split(' ').collect();
         let start: usize = words[5].parse().expect("where the cells begin");

@@ -5,51 +5,32 @@
 use second::counting::Counting;
 use second::dealing;
 use second::field;
-use second::layout::{Layout, Layouts, Shape};
+use second::layout::{Layout, Layouts, OldShape, Shape};
 use second::whole::Whole;
 
-const SHAPES: [Shape; 6] = [
-    Shape {
-        form: 0,
-        m: 2,
-        t: 10,
-        v: 1 << 56,
-    },
-    Shape {
-        form: 0,
-        m: 2,
-        t: 16,
-        v: (1 << 56) - 1,
-    },
-    Shape {
-        form: 0,
-        m: 3,
-        t: 2,
-        v: 1 << 56,
-    },
-    Shape {
-        form: 0,
-        m: 3,
-        t: 7,
-        v: 1 << 40,
-    },
-    Shape {
-        form: 0,
-        m: 4,
-        t: 16,
-        v: 1 << 56,
-    },
-    Shape {
-        form: 0,
-        m: 4,
-        t: 3,
-        v: 1_000_003,
-    },
+/// m, t and v in both forms that have one range.
+const OF_ONE_RANGE: [(u64, u64, u64); 6] = [
+    (2, 10, 1 << 56),
+    (2, 16, (1 << 56) - 1),
+    (3, 2, 1 << 56),
+    (3, 7, 1 << 40),
+    (4, 16, 1 << 56),
+    (4, 3, 1_000_003),
 ];
 
-fn shapes_of_both_forms() -> impl Iterator<Item = Shape> {
-    let in_form = |form: u64| SHAPES.into_iter().map(move |shape| Shape { form, ..shape });
-    in_form(0).chain(in_form(1))
+/// m and the ranges of form 2. The last ones have the longest steps.
+const OF_RANGES: [(u64, &[u64]); 5] = [
+    (2, &[1 << 56, 1 << 48, 1 << 40, 1 << 32, 1 << 24, 1_000_003]),
+    (3, &[1_000, 1 << 20, 3, 1 << 40, 1 << 56]),
+    (4, &[2, 1 << 56, 77, 1 << 30]),
+    (2, &[2, 1 << 56, 2]),
+    (2, &[1 << 56, 2, 2]),
+];
+
+fn shapes() -> Vec<Shape> {
+    let in_form = |form: u64| OF_ONE_RANGE.map(|(m, t, v)| OldShape { m, t, v }.in_form(form));
+    let of_ranges = OF_RANGES.map(|(m, ranges)| Shape::of_ranges(m, ranges));
+    [&in_form(0)[..], &in_form(1), &of_ranges].concat()
 }
 
 /// Counts up the digits `low` to `high`, rightmost fastest; false at the end.
@@ -106,7 +87,8 @@ fn next_pattern(pattern: &[u64], highest: u64) -> Vec<u64> {
 /// Numbers from all over the range, and both sides of each step to one more
 /// written place.
 fn samples(layout: &Layout, generation: usize, counting: &mut Counting) -> Vec<u64> {
-    let scattered = (1..200_u64).map(|i| i.wrapping_mul(0x9e37_79b9_7f4a_7c15) % layout.range());
+    let range = layout.range(generation);
+    let scattered = (1..200_u64).map(|i| i.wrapping_mul(0x9e37_79b9_7f4a_7c15) % range);
     let mut numbers: Vec<u64> = scattered.chain(0..20).collect();
     if let Some(deal) = layout.deal(generation) {
         for k in deal.fewest..=deal.most {
@@ -115,7 +97,7 @@ fn samples(layout: &Layout, generation: usize, counting: &mut Counting) -> Vec<u
             numbers.extend([up_to - 1, up_to, up_to.saturating_add(1)]);
         }
     }
-    numbers.retain(|number| number + 1 < layout.range());
+    numbers.retain(|number| *number < range - 1);
     numbers
 }
 
@@ -145,8 +127,8 @@ fn check_generation(layout: &Layout, generation: usize, counting: &mut Counting)
 #[test]
 fn neighbouring_numbers_have_neighbouring_patterns() {
     let mut layouts = Layouts::default();
-    for shape in shapes_of_both_forms() {
-        let layout = layouts.grant(shape, 256).expect("a list that fits");
+    for shape in shapes() {
+        let layout = layouts.grant(&shape, 256).expect("a list that fits");
         for generation in 1..=layout.generations() {
             check_generation(&layout, generation, &mut layouts.counting);
         }
@@ -156,13 +138,13 @@ fn neighbouring_numbers_have_neighbouring_patterns() {
 #[test]
 fn number_0_has_the_first_pattern() {
     let mut layouts = Layouts::default();
-    for shape in shapes_of_both_forms() {
-        let layout = layouts.grant(shape, 256).expect("a list that fits");
+    for shape in shapes() {
+        let layout = layouts.grant(&shape, 256).expect("a list that fits");
         for generation in 1..=layout.generations() {
             let zero = Whole::zero();
             let first = field::pattern_for(generation, &layout, &zero, &mut layouts.counting);
             let mut due = vec![0; layout.count(generation)];
-            if generation > 1 || shape.form == 1 {
+            if generation > 1 || shape.form > 0 {
                 due[layout.count(generation) - 1] = 1;
             }
             assert_eq!(first, Some(due));
@@ -173,16 +155,16 @@ fn number_0_has_the_first_pattern() {
 #[test]
 fn a_large_field_is_written_to_the_end() {
     let mut layouts = Layouts::default();
-    for shape in shapes_of_both_forms() {
-        let layout = layouts.grant(shape, 256).expect("a list that fits");
+    for shape in shapes() {
+        let layout = layouts.grant(&shape, 256).expect("a list that fits");
         let mut cells = vec![0; (layout.wits() + 7) / 8];
         let mut turned = 0;
         for generation in 1..=layout.generations() {
-            let number = shape.v - 1 - generation as u64;
-            let written = field::write(shape, number, &cells, &mut layouts)
+            let number = (layout.range(generation) - 1).saturating_sub(generation as u64);
+            let written = field::write(&shape, number, &cells, &mut layouts)
                 .expect("generations are left and the number is in range");
             assert_eq!(written.generation, generation);
-            let reading = field::read(shape, &written.cells, &mut layouts);
+            let reading = field::read(&shape, &written.cells, &mut layouts);
             let read_back = reading.map(|reading| (reading.generation, reading.number));
             assert_eq!(read_back, Ok((generation, number)));
             turned += written.turned;
@@ -191,6 +173,6 @@ fn a_large_field_is_written_to_the_end() {
         // "The turned counts add up to the number of ones in the cells."
         let ones: u32 = cells.iter().map(|byte| byte.count_ones()).sum();
         assert_eq!(turned, u64::from(ones));
-        assert!(field::write(shape, 0, &cells, &mut layouts).is_err());
+        assert!(field::write(&shape, 0, &cells, &mut layouts).is_err());
     }
 }

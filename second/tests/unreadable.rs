@@ -5,35 +5,32 @@ mod octets;
 
 use octets::octets;
 use second::answers;
-use second::layout::{Layouts, Shape};
+use second::layout::{Layouts, OldShape, Shape};
 use second::listing::fieldlist;
 use second::protocol::{Call, ManyCall};
 
-const SMALL: Shape = Shape {
-    form: 0,
-    m: 2,
-    t: 3,
-    v: 4,
-};
-const OF_20: Shape = Shape {
-    form: 0,
-    m: 2,
-    t: 2,
-    v: 20,
-};
+fn small() -> Shape {
+    OldShape { m: 2, t: 3, v: 4 }.in_form_0()
+}
+
+fn of_20() -> Shape {
+    OldShape { m: 2, t: 2, v: 20 }.in_form_0()
+}
 
 fn line_of(call: Call) -> String {
     answers::answer(&call, &mut Layouts::default())
 }
 
-fn read_line(shape: Shape, cells: &str) -> String {
-    let cells = octets(cells);
-    line_of(Call::Read { shape, cells })
+fn read_line(shape: &Shape, cells: &str) -> String {
+    line_of(Call::Read {
+        shape: shape.clone(),
+        cells: octets(cells),
+    })
 }
 
-fn write_line(shape: Shape, cells: &str, number: u64) -> String {
+fn write_line(shape: &Shape, cells: &str, number: u64) -> String {
     line_of(Call::Write {
-        shape,
+        shape: shape.clone(),
         number,
         cells: octets(cells),
     })
@@ -41,23 +38,23 @@ fn write_line(shape: Shape, cells: &str, number: u64) -> String {
 
 #[test]
 fn readings() {
-    assert_eq!(read_line(SMALL, "43"), "read 16 2\n");
-    assert_eq!(read_line(SMALL, "FF"), "read 15 3 0\n");
-    assert_eq!(read_line(SMALL, "F0"), "read 15 2 2\n");
-    assert_eq!(read_line(OF_20, "02 80"), "read 16 1\n");
+    assert_eq!(read_line(&small(), "43"), "read 16 2\n");
+    assert_eq!(read_line(&small(), "FF"), "read 15 3 0\n");
+    assert_eq!(read_line(&small(), "F0"), "read 15 2 2\n");
+    assert_eq!(read_line(&of_20(), "02 80"), "read 16 1\n");
 }
 
 #[test]
 fn writes() {
-    assert_eq!(write_line(SMALL, "43", 4), "write 6 43\n");
-    assert_eq!(write_line(SMALL, "0F", 3), "write 15 2 2 0f\n");
-    assert_eq!(write_line(SMALL, "43", 3), "write 16 2 43\n");
+    assert_eq!(write_line(&small(), "43", 4), "write 6 43\n");
+    assert_eq!(write_line(&small(), "0F", 3), "write 15 2 2 0f\n");
+    assert_eq!(write_line(&small(), "43", 3), "write 16 2 43\n");
 }
 
 #[test]
 fn a_stop_of_many() {
     let call = |cells: &str| ManyCall {
-        shape: SMALL,
+        shape: small(),
         numbers: vec![1, 1, 1],
         cells: octets(cells),
     };
@@ -80,9 +77,9 @@ fn records_of_a_walk() {
 /// Zero groups are unerased too, and in generation 1 all ones are data.
 #[test]
 fn what_counts_as_unerased() {
-    assert_eq!(read_line(SMALL, "55"), "read 15 3 4\n");
-    assert_eq!(read_line(SMALL, "54"), "read 15 3 4\n");
-    assert_eq!(read_line(SMALL, "50"), "read 15 2 4\n");
-    assert_eq!(read_line(SMALL, "F6"), "read 16 3\n");
-    assert_eq!(read_line(SMALL, "C0"), "read 16 1\n");
+    assert_eq!(read_line(&small(), "55"), "read 15 3 4\n");
+    assert_eq!(read_line(&small(), "54"), "read 15 3 4\n");
+    assert_eq!(read_line(&small(), "50"), "read 15 2 4\n");
+    assert_eq!(read_line(&small(), "F6"), "read 16 3\n");
+    assert_eq!(read_line(&small(), "C0"), "read 16 1\n");
 }

@@ -1,5 +1,8 @@
 //! What the made streams are sure to hold of cells that are refused with 15 or 16.
 
+#[path = "common/streams.rs"]
+mod streams;
+
 use second::dump;
 use second::field;
 use second::layout::{Layouts, Shape};
@@ -7,16 +10,14 @@ use second::many;
 use second::newdump;
 use second::protocol::{Call, Limits, NewDumpCall};
 use second::refusal::Refusal;
-use second::stream::Maker;
 use std::collections::HashMap;
+use std::sync::Arc;
 
-const CALLS: usize = 20_000;
 const OFTEN: usize = 10;
 const OPERATIONS: [&str; 5] = ["read", "write", "record", "new record", "stop"];
 
-fn calls(seed: u64) -> Vec<Call> {
-    let mut maker = Maker::new(seed, Limits::USUAL);
-    (0..CALLS).map(|_| maker.call()).collect()
+fn calls(seed: u64) -> Arc<Vec<Call>> {
+    streams::calls(seed, Limits::USUAL)
 }
 
 /// A field that is refused, and by what operation.
@@ -26,21 +27,21 @@ type Refused = (&'static str, Shape, Refusal);
 fn refused_fields(call: &Call, layouts: &mut Layouts) -> Vec<Refused> {
     match call {
         Call::Read { shape, cells } => {
-            let refusal = field::read(*shape, cells, layouts).err();
-            refusal.map(|refusal| ("read", *shape, refusal))
+            let refusal = field::read(shape, cells, layouts).err();
+            refusal.map(|refusal| ("read", shape.clone(), refusal))
         }
         Call::Write {
             shape,
             number,
             cells,
         } => {
-            let refusal = field::write(*shape, *number, cells, layouts).err();
-            refusal.map(|refusal| ("write", *shape, refusal))
+            let refusal = field::write(shape, *number, cells, layouts).err();
+            refusal.map(|refusal| ("write", shape.clone(), refusal))
         }
         Call::Many(call) => {
-            let many = many::write_many(call.shape, &call.numbers, &call.cells, layouts);
+            let many = many::write_many(&call.shape, &call.numbers, &call.cells, layouts);
             let refusal = many.ok().and_then(|many| many.stop);
-            refusal.map(|refusal| ("stop", call.shape, refusal))
+            refusal.map(|refusal| ("stop", call.shape.clone(), refusal))
         }
         Call::Walk { dump } => return refused_records(dump, layouts),
         Call::NewDump(NewDumpCall::Walk { dump }) => return refused_new_records(dump, layouts),
@@ -62,14 +63,14 @@ fn refused_records(dump: &[u8], layouts: &mut Layouts) -> Vec<Refused> {
 fn refused_new_records(dump: &[u8], layouts: &mut Layouts) -> Vec<Refused> {
     let records = newdump::walk(dump, layouts).records.into_iter();
     let refused = records.filter_map(|record| {
-        let shape = record.layout.shape();
-        Some(("new record", shape, record.outcome.err()?))
+        let refusal = record.outcome.err()?;
+        Some(("new record", record.layout, refusal))
     });
     refused.collect()
 }
 
 /// Which generation is told, and of 15 how many groups are unerased beside its count.
-fn kind_of(shape: Shape, refusal: Refusal, layouts: &mut Layouts) -> Option<String> {
+fn kind_of(shape: &Shape, refusal: Refusal, layouts: &mut Layouts) -> Option<String> {
     let layout = layouts.grant(shape, 256).ok()?;
     let of_layout = |generation: usize| match generation {
         1 => "first",
@@ -109,9 +110,9 @@ fn every_kind_is_met_often_by_every_operation() {
     for seed in 0..2 {
         let mut layouts = Layouts::default();
         let mut met: HashMap<(&str, String), usize> = HashMap::new();
-        for call in calls(seed) {
-            for (operation, shape, refusal) in refused_fields(&call, &mut layouts) {
-                if let Some(kind) = kind_of(shape, refusal, &mut layouts) {
+        for call in calls(seed).iter() {
+            for (operation, shape, refusal) in refused_fields(call, &mut layouts) {
+                if let Some(kind) = kind_of(&shape, refusal, &mut layouts) {
                     *met.entry((operation, kind)).or_default() += 1;
                 }
             }
@@ -130,8 +131,8 @@ fn every_kind_is_met_often_by_every_operation() {
 fn every_generation_is_told_often() {
     let mut layouts = Layouts::default();
     let mut met: HashMap<(u8, usize), usize> = HashMap::new();
-    for call in (2..4).flat_map(calls) {
-        for (_, _, refusal) in refused_fields(&call, &mut layouts) {
+    for call in calls(0).iter().chain(calls(1).iter()) {
+        for (_, _, refusal) in refused_fields(call, &mut layouts) {
             if let Some(told) = refusal.carried().first() {
                 *met.entry((refusal.number(), *told)).or_default() += 1;
             }
@@ -150,15 +151,15 @@ fn every_generation_is_told_often() {
 fn writes_are_often_refused_with_6_before_15_and_16() {
     let mut layouts = Layouts::default();
     let mut met: HashMap<u8, usize> = HashMap::new();
-    for call in calls(4) {
+    for call in calls(1).iter() {
         if let Call::Write {
             shape,
             number,
             cells,
         } = call
         {
-            let refusal = field::write(shape, number, &cells, &mut layouts).err();
-            let of_read = field::read(shape, &cells, &mut layouts).err();
+            let refusal = field::write(shape, *number, cells, &mut layouts).err();
+            let of_read = field::read(shape, cells, &mut layouts).err();
             if let (Some(Refusal::NumberOutOfRange), Some(unreadable)) = (refusal, of_read) {
                 *met.entry(unreadable.number()).or_default() += 1;
             }

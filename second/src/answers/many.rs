@@ -8,7 +8,7 @@ use crate::protocol::ManyCall;
 /// Pairs of generation and turned count stand for the fields that were written, also
 /// where a later one was refused.
 pub fn answer(call: &ManyCall, layouts: &mut Layouts) -> String {
-    let many = match many::write_many(call.shape, &call.numbers, &call.cells, layouts) {
+    let many = match many::write_many(&call.shape, &call.numbers, &call.cells, layouts) {
         Ok(many) => many,
         Err(refusal) => return line(&["many".to_string(), refused(refusal), in_hex(&call.cells)]),
     };

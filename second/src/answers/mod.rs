@@ -34,16 +34,16 @@ pub fn answer_stream(
 /// The call's line or lines, each with its line feed.
 pub fn answer(call: &Call, layouts: &mut Layouts) -> String {
     match call {
-        Call::Layout { shape, offered } => layout_line(*shape, *offered, layouts),
+        Call::Layout { shape, offered } => layout_line(shape, *offered, layouts),
         Call::Read { shape, cells } => {
-            let outcome = field::read(*shape, cells, layouts);
+            let outcome = field::read(shape, cells, layouts);
             line(&["read".to_string(), outcome_fields(outcome)])
         }
         Call::Write {
             shape,
             number,
             cells,
-        } => write_line(*shape, *number, cells, layouts),
+        } => write_line(shape, *number, cells, layouts),
         Call::Export {
             serial,
             shape,
@@ -85,14 +85,14 @@ fn in_hex(bytes: &[u8]) -> String {
     bytes.iter().map(|byte| format!("{:02x}", byte)).collect()
 }
 
-fn layout_line(shape: Shape, offered: u64, layouts: &mut Layouts) -> String {
+fn layout_line(shape: &Shape, offered: u64, layouts: &mut Layouts) -> String {
     match layouts.grant(shape, offered) {
         Ok(layout) => line(&["layout 0".to_string(), values::list(&layout)]),
         Err(refusal) => line(&["layout".to_string(), refused(refusal)]),
     }
 }
 
-fn write_line(shape: Shape, number: u64, cells: &[u8], layouts: &mut Layouts) -> String {
+fn write_line(shape: &Shape, number: u64, cells: &[u8], layouts: &mut Layouts) -> String {
     match field::write(shape, number, cells, layouts) {
         Ok(written) => line(&[
             format!("write 0 {} {}", written.generation, written.turned),

@@ -24,14 +24,14 @@ pub fn answer(call: &NewDumpCall, layouts: &mut Layouts) -> String {
             shape,
             output_length,
         } => stored_line("listed", *output_length, |output| {
-            newdump::export_layout(*shape, output, layouts)
+            newdump::export_layout(shape, output, layouts)
         }),
         NewDumpCall::ExportRecord {
             exported,
             output_length,
             cells,
         } => stored_line("export", *output_length, |output| {
-            newdump::export_record(*exported, cells, output, layouts)
+            newdump::export_record(exported, cells, output, layouts)
         }),
     }
 }
@@ -45,10 +45,8 @@ fn walk_lines(dump: &[u8], layouts: &mut Layouts) -> String {
 
 /// "The layout's number, then its numbers as listed".
 fn record_line(record: &Record) -> String {
-    let layout = &record.layout;
     let mut numbers = vec![record.serial, record.number as u64];
-    numbers.extend([layout.form, layout.m, layout.t]);
-    numbers.extend(&layout.ranges);
+    numbers.extend(newdump::listed_numbers(&record.layout));
     numbers.extend([record.start, record.cells.len()].map(|place| place as u64));
     let mut fields = vec!["record".to_string()];
     fields.extend(numbers.iter().map(u64::to_string));

@@ -61,7 +61,7 @@ impl Call {
             Call::Layout { shape, offered } => {
                 (1, [&numbers_of(shape)[..], &[*offered]].concat(), None)
             }
-            Call::Read { shape, cells } => (2, numbers_of(shape).to_vec(), Some(cells)),
+            Call::Read { shape, cells } => (2, numbers_of(shape), Some(cells)),
             Call::Write {
                 shape,
                 number,
@@ -145,14 +145,20 @@ pub fn of_cells(cells: &[u8]) -> String {
     format!("{} of cells", counted(cells))
 }
 
-/// In the order in which the stream has them.
-pub fn numbers_of(shape: &Shape) -> [u64; 4] {
-    [shape.form, shape.m, shape.t, shape.v]
+/// In the order in which the stream has them, the ranges behind their count.
+pub fn numbers_of(shape: &Shape) -> Vec<u64> {
+    let count = shape.ranges.len() as u64;
+    [&[shape.form, shape.m, shape.t, count], &shape.ranges[..]].concat()
 }
 
 pub fn words(shape: &Shape) -> String {
-    let [form, m, t, v] = numbers_of(shape);
-    format!("form {}, m {}, t {}, v {}", form, m, t, v)
+    let ranges: Vec<String> = shape.ranges.iter().map(u64::to_string).collect();
+    let ranges = match ranges.is_empty() {
+        true => "none".to_string(),
+        false => ranges.join(" "),
+    };
+    let Shape { form, m, t, .. } = shape;
+    format!("form {}, m {}, t {}, v {}", form, m, t, ranges)
 }
 
 fn old_words(shape: &OldShape) -> String {

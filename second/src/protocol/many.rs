@@ -1,7 +1,7 @@
 //! The call that writes many numbers at once, operation 13.
 
 use super::call::{numbers_of, of_cells, words, Parts};
-use super::{counted_bytes, number, number_up_to, shape, Failure, Limits};
+use super::{counted_bytes, counted_numbers, shape, Failure, Limits};
 use crate::layout::Shape;
 use std::io::Read;
 
@@ -18,14 +18,9 @@ pub struct ManyCall {
 pub(super) fn call_after(stream: &mut impl Read, limits: Limits) -> Result<ManyCall, Failure> {
     Ok(ManyCall {
         shape: shape(stream)?,
-        numbers: counted_numbers(stream)?,
+        numbers: counted_numbers(MOST_NUMBERS, stream)?,
         cells: counted_bytes(limits, stream)?,
     })
-}
-
-fn counted_numbers(stream: &mut impl Read) -> Result<Vec<u64>, Failure> {
-    let count = number_up_to(MOST_NUMBERS, stream)?;
-    (0..count).map(|_| number(stream)).collect()
 }
 
 impl ManyCall {

@@ -13,6 +13,9 @@ pub use many::ManyCall;
 pub use new_dump::NewDumpCall;
 use std::io::{self, ErrorKind, Read};
 
+/// More than a shape may have, so that such a shape can be asked for and refused.
+const MOST_RANGES: u64 = 64;
+
 /// How much a call may hold.
 #[derive(Clone, Copy, Debug, PartialEq, Eq)]
 pub struct Limits {
@@ -152,12 +155,17 @@ fn number_up_to(most: u64, stream: &mut impl Read) -> Result<u64, Failure> {
     Ok(number)
 }
 
+fn counted_numbers(most: u64, stream: &mut impl Read) -> Result<Vec<u64>, Failure> {
+    let count = number_up_to(most, stream)?;
+    (0..count).map(|_| number(stream)).collect()
+}
+
 fn shape(stream: &mut impl Read) -> Result<Shape, Failure> {
     Ok(Shape {
         form: number(stream)?,
         m: number(stream)?,
         t: number(stream)?,
-        v: number(stream)?,
+        ranges: counted_numbers(MOST_RANGES, stream)?,
     })
 }
 

@@ -46,7 +46,7 @@ impl Maker {
     /// A whole record, its cells readable or not.
     fn record(&mut self) -> Vec<u8> {
         let shape = self.shape_of_a_record();
-        let cells = self.cells(shape.in_form_0());
+        let cells = self.cells(&shape.in_form_0());
         dump::record_bytes(self.serial(), shape, &cells)
     }
 
@@ -93,7 +93,7 @@ impl Maker {
 
     fn odd_record(&mut self) -> Vec<u8> {
         let shape = self.old_shape();
-        let cells = self.cells(shape.in_form_0());
+        let cells = self.cells(&shape.in_form_0());
         let numbers = [self.serial(), shape.m, shape.t, shape.v, cells.len() as u64];
         // n is the number that a reader acts on, so it is odd most often.
         let odd = match self.chance.one_in(3) {

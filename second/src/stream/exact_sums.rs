@@ -1,10 +1,11 @@
-//! Ranges that the patterns of generation 1 fill exactly in form 0. Form 1 has one
-//! pattern fewer, so the two forms have different lists there and nowhere else.
+//! Ranges that the patterns of generation 1 fill exactly in form 0. Form 1 and form 2 of
+//! equal ranges have one pattern fewer, so that their list is another one there and
+//! nowhere else.
 
 use super::shapes::LARGEST_RANGE;
 use crate::counting::Counting;
 use crate::dealing::Deal;
-use crate::layout::Shape;
+use crate::layout::OldShape;
 use crate::whole::Whole;
 
 /// Above every second count and every step of a granted list: the most is 186
@@ -13,18 +14,18 @@ const HIGHEST_COUNT: usize = 200;
 const LONGEST_STEP: usize = 16;
 
 /// Every shape of form 0 whose range is the sum in condition b of its own list.
-pub fn shapes(counting: &mut Counting) -> Vec<Shape> {
+pub fn shapes(counting: &mut Counting) -> Vec<OldShape> {
     (2..=4).flat_map(|m| shapes_with(m, counting)).collect()
 }
 
-fn shapes_with(m: u64, counting: &mut Counting) -> Vec<Shape> {
+fn shapes_with(m: u64, counting: &mut Counting) -> Vec<OldShape> {
     let erased = (1 << m) - 1;
     let rooms = middle_rooms(erased, counting);
     let mut largest = last_ranges(erased);
     let mut shapes = Vec::new();
     for t in 2..=16 {
         let sums = exact_sums(erased, &largest, counting);
-        shapes.extend(sums.into_iter().map(|v| Shape { form: 0, m, t, v }));
+        shapes.extend(sums.into_iter().map(|v| OldShape { m, t, v }));
         largest = ranges_with_one_more(&largest, &rooms);
     }
     shapes

@@ -1,15 +1,17 @@
 //! Cells for made calls: blank, written, damaged, and just beyond a reading.
 
+use super::shapes::shape_of_cells;
 use super::Maker;
 use crate::cells;
 use crate::field;
 use crate::layout::{Layout, Shape, GROUPS_OFFERED};
+use crate::refusal::Refusal;
 use crate::whole::Whole;
 
 impl Maker {
     /// Cells for a shape; a shape without a layout gets a few bytes.
-    pub fn cells(&mut self, shape: Shape) -> Vec<u8> {
-        let shape = shape_of_cells(shape);
+    pub fn cells(&mut self, shape: &Shape) -> Vec<u8> {
+        let shape = &shape_of_cells(shape);
         let layout = match self.layouts.grant(shape, GROUPS_OFFERED) {
             Ok(layout) => layout,
             Err(_) => {
@@ -32,6 +34,39 @@ impl Maker {
         }
     }
 
+    /// The range that decides about a number on these cells or, at times, another one of the
+    /// list, so that it is told which one does.
+    pub fn range_to_meet(&mut self, shape: &Shape, cells: &[u8]) -> u64 {
+        let shape = &shape_of_cells(shape);
+        match self.layouts.grant(shape, GROUPS_OFFERED) {
+            Ok(layout) if !self.chance.one_in(3) => self.range_due(shape, &layout, cells),
+            _ => self.any_range(shape),
+        }
+    }
+
+    /// One of the list, and 2 where it is empty.
+    pub fn any_range(&mut self, shape: &Shape) -> u64 {
+        match &shape.ranges[..] {
+            [] => 2,
+            ranges => self.chance.pick(ranges),
+        }
+    }
+
+    /// The range of the generation that would take a number. Where none would it is the longest
+    /// one for cells that can't be read, and the last one for spent cells.
+    pub fn range_due(&mut self, shape: &Shape, layout: &Layout, cells: &[u8]) -> u64 {
+        if layout.has_one_range() {
+            return layout.range(1);
+        }
+        let generations = layout.generations();
+        let used = match field::read(shape, cells, &mut self.layouts) {
+            Ok(reading) => generations - reading.left,
+            Err(Refusal::Blank) => 0,
+            Err(_) => return longest_range(layout),
+        };
+        layout.range(generations.min(used + 1))
+    }
+
     /// A number for a write, in range or not.
     pub fn number_to_write(&mut self, range: u64) -> u64 {
         match self.chance.between(1, 20) {
@@ -50,16 +85,31 @@ impl Maker {
     }
 
     /// Cells after some accepted writes from blank ones.
-    pub fn written_cells(&mut self, shape: Shape, layout: &Layout) -> Vec<u8> {
+    pub fn written_cells(&mut self, shape: &Shape, layout: &Layout) -> Vec<u8> {
         let writes = 1 + self.chance.index(layout.generations());
         let mut cells = vec![0; cells::byte_count(layout)];
-        for _ in 0..writes {
-            let number = self.number_in_range(shape.v);
+        for write in 1..=writes {
+            let number = self.number_in_range(layout.range(write));
             if let Ok(written) = field::write(shape, number, &cells, &mut self.layouts) {
                 cells = written.cells;
             }
         }
         cells
+    }
+
+    /// One field's cells before its first write and after each.
+    pub fn cells_from_blank_to_spent(&mut self, shape: &Shape, layout: &Layout) -> Vec<Vec<u8>> {
+        let mut cells = vec![0; cells::byte_count(layout)];
+        let mut states = vec![cells.clone()];
+        for generation in 1..=layout.generations() {
+            // A 0 would leave blank cells of form 0 blank.
+            let number = self.chance.between(1, layout.range(generation) - 1);
+            if let Ok(written) = field::write(shape, number, &cells, &mut self.layouts) {
+                cells = written.cells;
+                states.push(cells.clone());
+            }
+        }
+        states
     }
 
     /// A pattern of one generation by chance, so that its number may be out of
@@ -100,7 +150,7 @@ impl Maker {
             return self.cells_beyond(layout);
         }
         let generation = 1 + self.chance.index(layout.generations());
-        let number = self.chance.pick(&[0, layout.range() - 1]);
+        let number = self.chance.pick(&[0, layout.range(generation) - 1]);
         self.cells_of_number(generation, layout, Whole::from(number))
     }
 
@@ -110,7 +160,7 @@ impl Maker {
         let generation = self.generation_to_meet(1, layout);
         let room = layout.room(generation, &mut self.layouts.counting);
         let number = match self.chance.one_in(2) {
-            true => Whole::from(layout.range()),
+            true => Whole::from(layout.range(generation)),
             false => room,
         };
         self.cells_of_number(generation, layout, number)
@@ -139,7 +189,7 @@ impl Maker {
         cells::bytes_of_groups(layout, &groups)
     }
 
-    fn cells_one_wit_off(&mut self, shape: Shape, layout: &Layout) -> Vec<u8> {
+    fn cells_one_wit_off(&mut self, shape: &Shape, layout: &Layout) -> Vec<u8> {
         let mut cells = self.written_cells(shape, layout);
         let wit = self.chance.index(layout.wits());
         cells[wit / 8] ^= 0x80 >> (wit % 8);
@@ -147,9 +197,10 @@ impl Maker {
     }
 
     /// A write of which some wits are turned: the first ones, the last ones, or any.
-    fn cells_of_a_cut_off_write(&mut self, shape: Shape, layout: &Layout) -> Vec<u8> {
+    fn cells_of_a_cut_off_write(&mut self, shape: &Shape, layout: &Layout) -> Vec<u8> {
         let before = self.written_cells(shape, layout);
-        let number = self.number_in_range(shape.v);
+        let range = self.range_due(shape, layout, &before);
+        let number = self.number_in_range(range);
         let after = match field::write(shape, number, &before, &mut self.layouts) {
             Ok(written) => written.cells,
             Err(_) => return before,
@@ -206,7 +257,7 @@ impl Maker {
         field::with_pattern(&groups, &pattern)
     }
 
-    fn cells_with_wrong_bytes(&mut self, shape: Shape, layout: &Layout) -> Vec<u8> {
+    fn cells_with_wrong_bytes(&mut self, shape: &Shape, layout: &Layout) -> Vec<u8> {
         let mut cells = self.written_cells(shape, layout);
         match self.chance.between(1, 10) {
             1..=2 => cells.push(0),
@@ -249,13 +300,11 @@ impl Maker {
     }
 }
 
-/// Where the form alone is beyond its bounds the cells are those of form 1, so that it
-/// decides.
-pub fn shape_of_cells(shape: Shape) -> Shape {
-    let form = shape.form.min(1);
-    Shape { form, ..shape }
-}
-
 fn cells_of_one_value(layout: &Layout, value: u64) -> Vec<u8> {
     cells::bytes_of_groups(layout, &vec![value; layout.groups()])
+}
+
+pub fn longest_range(layout: &Layout) -> u64 {
+    let ranges = (1..=layout.generations()).map(|generation| layout.range(generation));
+    ranges.max().unwrap_or(0)
 }

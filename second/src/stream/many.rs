@@ -1,12 +1,12 @@
 //! Made calls of many numbers: good ones, ones that stop at a field, and ones that are
 //! refused before any write.
 
-use super::fields::shape_of_cells;
-use super::shapes::PUBLISHED;
+use super::fields::longest_range;
+use super::ranges::equal_ranges;
+use super::shapes::{shape_of_cells, PUBLISHED};
 use super::Maker;
 use crate::cells;
-use crate::field;
-use crate::layout::{Layout, Shape, GROUPS_OFFERED};
+use crate::layout::{Layout, OldShape, Shape, GROUPS_OFFERED};
 use crate::many::MOST_NUMBERS;
 use crate::protocol::{Call, ManyCall};
 
@@ -44,40 +44,29 @@ impl Maker {
     /// others, and numbers in range. A shape without a layout gets a byte for each
     /// number.
     fn fields_to_write(&mut self, shape: Shape, count: usize) -> ManyCall {
-        let numbers = (0..count).map(|_| self.number_in_range(shape.v)).collect();
-        let of_cells = shape_of_cells(shape);
-        let cells = match self.layouts.grant(of_cells, GROUPS_OFFERED) {
-            Ok(layout) => {
-                let states = self.cells_from_blank_to_spent(of_cells, &layout);
-                let spent = layout.generations();
-                let field = |_| match self.chance.one_in(5) {
-                    true => states[spent - 1].clone(),
-                    false => states[self.chance.index(spent)].clone(),
+        let of_cells = &shape_of_cells(&shape);
+        let (mut numbers, mut cells) = (Vec::new(), Vec::new());
+        if let Ok(layout) = self.layouts.grant(of_cells, GROUPS_OFFERED) {
+            let states = self.cells_from_blank_to_spent(of_cells, &layout);
+            let spent = layout.generations();
+            for _ in 0..count {
+                let writes = match self.chance.one_in(5) {
+                    true => spent - 1,
+                    false => self.chance.index(spent),
                 };
-                (0..count).flat_map(field).collect()
+                numbers.push(self.number_in_range(layout.range(writes + 1)));
+                cells.extend(&states[writes]);
             }
-            Err(_) => self.chance.bytes(count),
-        };
+        } else {
+            let range = self.any_range(of_cells);
+            numbers.extend((0..count).map(|_| self.number_in_range(range)));
+            cells = self.chance.bytes(count);
+        }
         ManyCall {
             shape,
             numbers,
             cells,
         }
-    }
-
-    /// One field's cells before its first write and after each.
-    fn cells_from_blank_to_spent(&mut self, shape: Shape, layout: &Layout) -> Vec<Vec<u8>> {
-        let mut cells = vec![0; cells::byte_count(layout)];
-        let mut states = vec![cells.clone()];
-        for _ in 0..layout.generations() {
-            // A 0 would leave blank cells of form 0 blank.
-            let number = self.chance.between(1, shape.v - 1);
-            if let Ok(written) = field::write(shape, number, &cells, &mut self.layouts) {
-                cells = written.cells;
-                states.push(cells.clone());
-            }
-        }
-        states
     }
 
     /// The first of the faults decides, wherever the others are.
@@ -99,24 +88,30 @@ impl Maker {
     /// A number out of range, cells that can't be written, or both, so that their order
     /// decides.
     fn damage_field(&mut self, place: usize, call: &mut ManyCall) {
-        let shape = shape_of_cells(call.shape);
+        let shape = &shape_of_cells(&call.shape);
         let layout = match self.layouts.grant(shape, GROUPS_OFFERED) {
             Ok(layout) => layout,
             Err(_) => return,
         };
-        let fault = self.chance.between(1, 8);
-        if fault <= 3 {
-            call.numbers[place] = self.chance.pick(&[shape.v, shape.v + 1, u64::MAX]);
-        }
+        let length = cells::byte_count(&layout);
+        let field = &mut call.cells[place * length..(place + 1) * length];
+        // In form 2 they are both wrong more often: there the cells are refused first.
+        let fault = match layout.has_one_range() {
+            true => self.chance.between(1, 8),
+            false => self.chance.between(0, 5),
+        };
         if fault >= 2 {
-            let refused = self.cells_to_refuse(shape, &layout);
-            let start = place * refused.len();
-            call.cells[start..start + refused.len()].copy_from_slice(&refused);
+            field.copy_from_slice(&self.cells_to_refuse(shape, &layout));
+        }
+        if fault <= 3 {
+            let due = self.range_due(shape, &layout, field);
+            let longest = longest_range(&layout);
+            call.numbers[place] = self.chance.pick(&[due, due + 1, longest, u64::MAX]);
         }
     }
 
     /// As long as the field, and spent, with a left-over bit, or unreadable.
-    fn cells_to_refuse(&mut self, shape: Shape, layout: &Layout) -> Vec<u8> {
+    fn cells_to_refuse(&mut self, shape: &Shape, layout: &Layout) -> Vec<u8> {
         let mut states = self.cells_from_blank_to_spent(shape, layout);
         let has_left_over_bits = layout.wits() % 8 != 0;
         match self.chance.between(1, 10) {
@@ -147,40 +142,53 @@ impl Maker {
         call
     }
 
-    /// Of the other form, whose cells are mostly as long, or of any other shape.
+    /// Of another form, whose cells are mostly as long, or of any other shape.
     fn fields_of_another_layout(&mut self) -> ManyCall {
         let mut call = self.good_fields();
         call.shape = match self.chance.one_in(2) {
-            true => Shape {
-                form: 1 - shape_of_cells(call.shape).form,
-                ..call.shape
-            },
+            true => self.in_another_form(&call.shape),
             false => self.shape(),
         };
         call
     }
 
+    /// Form 2 with ranges that are equal to the one there was, and back with any of them.
+    fn in_another_form(&mut self, shape: &Shape) -> Shape {
+        let Shape { m, t, .. } = *shape;
+        let v = self.any_range(shape);
+        let of_one_range = OldShape { m, t, v };
+        match (shape.form, self.chance.index(2)) {
+            (0, 0) => of_one_range.in_form(1),
+            (0 | 1, 1) => equal_ranges(of_one_range),
+            (1, _) => of_one_range.in_form(0),
+            (_, form) => of_one_range.in_form(form as u64),
+        }
+    }
+
     fn cells_without_numbers(&mut self) -> ManyCall {
         let shape = self.shape();
         ManyCall {
-            shape,
+            cells: self.cells(&shape),
             numbers: Vec::new(),
-            cells: self.cells(shape),
+            shape,
         }
     }
 
     /// One number too many or more. Mostly nothing else is wrong; at times the shape
     /// is, or the fields are as many as a call may have.
     fn too_many_fields(&mut self) -> ManyCall {
-        let form = self.chance.between(0, 1);
         let shape = match self.chance.between(1, 8) {
             1..=2 => self.shape_beyond_bounds(),
             3 => PUBLISHED,
             _ => self.small_shape(),
         };
+        let shape = match self.chance.between(0, 2) {
+            2 => equal_ranges(shape),
+            form => shape.in_form(form),
+        };
         let past = MOST_NUMBERS + 1;
         let count = self.chance.pick(&[past, past, past + 1, 2 * MOST_NUMBERS]);
-        let mut call = self.fields_to_write(Shape { form, ..shape }, count);
+        let mut call = self.fields_to_write(shape, count);
         if self.chance.one_in(4) {
             call.cells.truncate(call.cells.len() / count * MOST_NUMBERS);
         }

@@ -9,15 +9,17 @@ mod hex_damage;
 mod many;
 mod new_dump_calls;
 mod new_dumps;
+mod ranges;
 mod shapes;
 
 use crate::cells;
 use crate::dump::{self, LARGEST_SERIAL, LONGEST_DUMP};
 use crate::field;
-use crate::layout::{Layouts, Shape, GROUPS_OFFERED};
+use crate::layout::{Layouts, OldShape, Shape, GROUPS_OFFERED};
 use crate::protocol::{Call, Limits};
 use chance::Chance;
-use shapes::FORMS_BEYOND;
+use ranges::equal_ranges;
+use shapes::shape_of_cells;
 use std::collections::VecDeque;
 use std::io::{self, Write};
 
@@ -31,7 +33,7 @@ pub struct Maker {
     chance: Chance,
     limits: Limits,
     layouts: Layouts,
-    exact_sums: Vec<Shape>,
+    exact_sums: Vec<OldShape>,
     /// Which of the exact sums is the next to be laid out.
     next_sum: usize,
     calls_made: u64,
@@ -92,18 +94,20 @@ impl Maker {
     }
 
     fn make_calls(&mut self) {
-        let call = match self.chance.between(1, 236) {
+        let call = match self.chance.between(1, 265) {
             1..=16 => self.layout_call(),
             17..=42 => self.read_call(),
             43..=64 => self.write_call(),
             65..=69 => return self.make_chain(),
-            70..=77 => return self.make_layouts_around_a_sum(),
-            78..=79 => return self.make_calls_with_a_form_beyond(),
-            80..=97 => self.export_call(),
-            98..=127 => Call::Walk { dump: self.dump() },
-            128..=132 => self.hex_export_call(),
-            133..=156 => self.hex_import_call(),
-            157..=188 => self.many_call(),
+            70..=79 => return self.make_layouts_around_a_sum(),
+            80..=83 => return self.make_calls_with_a_form_beyond(),
+            84..=101 => self.export_call(),
+            102..=131 => Call::Walk { dump: self.dump() },
+            132..=136 => self.hex_export_call(),
+            137..=160 => self.hex_import_call(),
+            161..=204 => self.many_call(),
+            205..=208 => return self.make_calls_with_miscounted_ranges(),
+            209..=211 => return self.make_writes_around_ranges(),
             _ => self.new_dump_call(),
         };
         self.waiting.push_back(call);
@@ -117,33 +121,35 @@ impl Maker {
 
     fn layout_call(&mut self) -> Call {
         let shape = self.shape();
-        let offered = self.offered(shape);
+        let offered = self.offered(&shape);
         Call::Layout { shape, offered }
     }
 
-    /// Both forms at a range that is a sum of condition b exactly, at one below and
-    /// at one above. The sums are taken one after the other.
+    /// Forms 0 and 1 at a range that is a sum of condition b exactly, at one below and at one
+    /// above, and form 2 with ranges equal to it. The sums are taken one after the other.
     fn make_layouts_around_a_sum(&mut self) {
         let exact = self.exact_sums[self.next_sum];
         self.next_sum = (self.next_sum + 1) % self.exact_sums.len();
         let offered = GROUPS_OFFERED;
         let ranges = [exact.v - 1, exact.v, exact.v + 1].into_iter();
-        let in_both_forms = |v: u64| [0, 1].map(|form| Shape { form, v, ..exact });
-        for shape in ranges.flat_map(in_both_forms) {
+        let in_both_forms = |v: u64| [0, 1].map(|form| OldShape { v, ..exact }.in_form(form));
+        let shapes = ranges.flat_map(in_both_forms);
+        for shape in shapes.chain([equal_ranges(exact)]) {
             self.waiting.push_back(Call::Layout { shape, offered });
         }
     }
 
     fn read_call(&mut self) -> Call {
         let shape = self.shape();
-        let cells = self.cells(shape);
+        let cells = self.cells(&shape);
         Call::Read { shape, cells }
     }
 
     fn write_call(&mut self) -> Call {
         let shape = self.shape();
-        let number = self.number_to_write(shape.v);
-        let cells = self.cells(shape);
+        let cells = self.cells(&shape);
+        let range = self.range_to_meet(&shape, &cells);
+        let number = self.number_to_write(range);
         Call::Write {
             shape,
             number,
@@ -157,57 +163,77 @@ impl Maker {
     /// nothing.
     fn make_chain(&mut self) {
         let shape = self.shape();
-        let layout = match self.layouts.grant(shape, GROUPS_OFFERED) {
+        let layout = match self.layouts.grant(&shape, GROUPS_OFFERED) {
             Ok(layout) => layout,
             Err(_) => return,
         };
         let mut cells = vec![0; cells::byte_count(&layout)];
         if self.chance.one_in(3) {
-            let number = self.chance.pick(&[shape.v, shape.v + 1, u64::MAX]);
-            self.push_write(shape, number, &cells);
+            let range = layout.range(1);
+            let number = self.chance.pick(&[range, range + 1, u64::MAX]);
+            self.push_write(&shape, number, &cells);
         }
         let opening_zeros = self.chance.index(3);
         for turn in 0..opening_zeros + layout.generations() + 2 {
             let number = match self.chance.between(1, 8) {
                 _ if turn < opening_zeros => 0,
-                1 => self.number_to_write(shape.v),
-                _ => self.number_in_range(shape.v),
+                1 => {
+                    let range = self.range_to_meet(&shape, &cells);
+                    self.number_to_write(range)
+                }
+                _ => {
+                    let range = self.range_due(&shape, &layout, &cells);
+                    self.number_in_range(range)
+                }
             };
             if self.chance.one_in(4) {
-                let cells = cells.clone();
-                self.waiting.push_back(Call::Read { shape, cells });
+                self.push_read(&shape, &cells);
             }
-            self.push_write(shape, number, &cells);
-            if let Ok(written) = field::write(shape, number, &cells, &mut self.layouts) {
+            self.push_write(&shape, number, &cells);
+            if let Ok(written) = field::write(&shape, number, &cells, &mut self.layouts) {
                 cells = written.cells;
             }
         }
     }
 
-    /// A layout, a read and a write that would be accepted in form 1.
+    /// By one range as in form 1, or by as many as in form 2.
     fn make_calls_with_a_form_beyond(&mut self) {
-        let form_1 = Shape {
-            form: 1,
-            ..self.small_shape()
+        let form = self.form_beyond();
+        let shape = match self.chance.one_in(2) {
+            true => self.shape_of_small_ranges(),
+            false => self.small_shape().in_form(1),
         };
-        let form = self.chance.pick(&FORMS_BEYOND);
-        let shape = Shape { form, ..form_1 };
-        let layout = match self.layouts.grant(form_1, GROUPS_OFFERED) {
+        self.make_calls_with_a_fault(&Shape { form, ..shape });
+    }
+
+    /// A layout, a read and a write that would be accepted but for the form or for the count
+    /// of ranges.
+    fn make_calls_with_a_fault(&mut self, shape: &Shape) {
+        let of_cells = shape_of_cells(shape);
+        let layout = match self.layouts.grant(&of_cells, GROUPS_OFFERED) {
             Ok(layout) => layout,
             Err(_) => return,
         };
-        let cells = self.written_cells(form_1, &layout);
-        let blank = vec![0; cells.len()];
-        let number = self.number_in_range(shape.v);
-        let offered = GROUPS_OFFERED;
-        self.waiting.push_back(Call::Layout { shape, offered });
-        self.waiting.push_back(Call::Read { shape, cells });
-        self.push_write(shape, number, &blank);
+        self.waiting.push_back(Call::Layout {
+            shape: shape.clone(),
+            offered: GROUPS_OFFERED,
+        });
+        let cells = self.written_cells(&of_cells, &layout);
+        self.push_read(shape, &cells);
+        let number = self.number_in_range(layout.range(1));
+        self.push_write(shape, number, &vec![0; cells.len()]);
     }
 
-    fn push_write(&mut self, shape: Shape, number: u64, cells: &[u8]) {
+    fn push_read(&mut self, shape: &Shape, cells: &[u8]) {
+        self.waiting.push_back(Call::Read {
+            shape: shape.clone(),
+            cells: cells.to_vec(),
+        });
+    }
+
+    fn push_write(&mut self, shape: &Shape, number: u64, cells: &[u8]) {
         self.waiting.push_back(Call::Write {
-            shape,
+            shape: shape.clone(),
             number,
             cells: cells.to_vec(),
         });
@@ -215,7 +241,7 @@ impl Maker {
 
     fn export_call(&mut self) -> Call {
         let shape = self.old_shape();
-        let cells = self.cells(shape.in_form_0());
+        let cells = self.cells(&shape.in_form_0());
         let serial = match self.chance.between(1, 12) {
             1 => self.chance.pick(&[LARGEST_SERIAL + 1, u64::MAX]),
             _ => self.serial(),

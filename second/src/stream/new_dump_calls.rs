@@ -2,12 +2,12 @@
 
 use super::Maker;
 use crate::dump::{LARGEST_SERIAL, LONGEST_DUMP};
-use crate::newdump::{self, Exported, Listed, MOST_LAYOUTS};
+use crate::newdump::{self, Exported, MOST_LAYOUTS};
 use crate::protocol::{Call, Limits, NewDumpCall};
 
 impl Maker {
     pub fn new_dump_call(&mut self) -> Call {
-        Call::NewDump(match self.chance.between(1, 48) {
+        Call::NewDump(match self.chance.between(1, 54) {
             1..=18 => NewDumpCall::Walk {
                 dump: self.new_dump(),
             },
@@ -29,7 +29,7 @@ impl Maker {
                     dump,
                 }
             }
-            39..=41 => self.export_of_a_layout(),
+            39..=44 => self.export_of_a_layout(),
             _ => self.export_of_a_record(),
         })
     }
@@ -49,19 +49,20 @@ impl Maker {
     }
 
     fn dump_for_old(&mut self) -> Vec<u8> {
-        match self.chance.between(1, 20) {
-            1..=10 => self.new_dump_of_form_0(),
-            11 => {
+        match self.chance.between(1, 24) {
+            1..=12 => self.new_dump_of_form_0(),
+            13 => {
                 let dump = self.new_dump_of_form_0();
                 self.truncated(dump)
             }
+            14..=15 => self.new_dump_of_form_0_but_for_one(),
             _ => self.new_dump(),
         }
     }
 
     fn export_of_a_layout(&mut self) -> NewDumpCall {
         let shape = self.shape();
-        let due = Listed::from(shape).bytes().len();
+        let due = newdump::listed_bytes(&shape).len();
         NewDumpCall::ExportLayout {
             shape,
             output_length: self.output_length_around(due),
@@ -70,7 +71,7 @@ impl Maker {
 
     fn export_of_a_record(&mut self) -> NewDumpCall {
         let shape = self.shape();
-        let cells = self.cells(shape);
+        let cells = self.cells(&shape);
         let serial = match self.chance.between(1, 12) {
             1 => self.chance.pick(&[LARGEST_SERIAL + 1, u64::MAX]),
             _ => self.serial(),

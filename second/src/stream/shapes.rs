@@ -1,13 +1,12 @@
 //! Forms, m, t, v and g for made calls: within their bounds, at them and beyond.
 
 use super::Maker;
-use crate::layout::{OldShape, Shape, GROUPS_OFFERED};
+use crate::layout::{OldShape, Shape, GENERATION_BOUNDS, GROUPS_OFFERED};
 
 pub const LARGEST_RANGE: u64 = 1 << 56;
 
 /// "278 wits", the field of 003's Example 1.
-pub const PUBLISHED: Shape = Shape {
-    form: 0,
+pub const PUBLISHED: OldShape = OldShape {
     m: 2,
     t: 10,
     v: LARGEST_RANGE,
@@ -44,36 +43,46 @@ pub const BOUNDARY_NUMBERS: [u64; 26] = [
     u64::MAX,
 ];
 
-/// Some are 0 or 1 if only their low 8 or 32 bits are looked at.
-pub const FORMS_BEYOND: [u64; 9] = [
-    2,
+/// Some are 0, 1 or 2 if only their low 8 or 32 bits are looked at.
+const FORMS_BEYOND: [u64; 11] = [
     3,
+    4,
     255,
     256,
     257,
+    258,
     1 << 32,
     (1 << 32) + 1,
+    (1 << 32) + 2,
     1 << 63,
     u64::MAX,
 ];
 
 impl Maker {
     pub fn shape(&mut self) -> Shape {
-        let form = match self.chance.between(1, 20) {
-            1..=8 => 0,
-            9..=19 => 1,
-            _ => self.chance.pick(&FORMS_BEYOND),
-        };
-        let shape = self.shape_of_form_0();
-        Shape { form, ..shape }
+        match self.chance.between(1, 30) {
+            1..=8 => self.old_shape().in_form(0),
+            9..=19 => self.old_shape().in_form(1),
+            20 => {
+                let form = self.form_beyond();
+                match self.chance.one_in(3) {
+                    true => Shape {
+                        form,
+                        ..self.shape_of_form_2()
+                    },
+                    false => self.old_shape().in_form(form),
+                }
+            }
+            21 => self.shape_of_miscounted_ranges(),
+            _ => self.shape_of_form_2(),
+        }
+    }
+
+    pub fn form_beyond(&mut self) -> u64 {
+        self.chance.pick(&FORMS_BEYOND)
     }
 
     pub fn old_shape(&mut self) -> OldShape {
-        let Shape { m, t, v, .. } = self.shape_of_form_0();
-        OldShape { m, t, v }
-    }
-
-    fn shape_of_form_0(&mut self) -> Shape {
         match self.chance.between(1, 104) {
             1..=36 => self.small_shape(),
             37..=56 => PUBLISHED,
@@ -85,28 +94,25 @@ impl Maker {
         }
     }
 
-    pub fn small_shape(&mut self) -> Shape {
-        Shape {
-            form: 0,
+    pub fn small_shape(&mut self) -> OldShape {
+        OldShape {
             m: self.chance.between(2, 4),
             t: self.chance.between(2, 4),
             v: self.chance.between(2, 40),
         }
     }
 
-    fn shape_within_bounds(&mut self) -> Shape {
-        Shape {
-            form: 0,
+    fn shape_within_bounds(&mut self) -> OldShape {
+        OldShape {
             m: self.chance.between(2, 4),
             t: self.chance.between(2, 16),
             v: self.chance.of_any_length(56).max(2),
         }
     }
 
-    fn corner_shape(&mut self) -> Shape {
+    fn corner_shape(&mut self) -> OldShape {
         let ranges = [2, 3, LARGEST_RANGE - 1, LARGEST_RANGE, LARGEST_RANGE + 1];
-        Shape {
-            form: 0,
+        OldShape {
             m: self.chance.between(2, 4),
             t: self.chance.pick(&[2, 3, 15, 16]),
             v: self.chance.pick(&ranges),
@@ -115,21 +121,27 @@ impl Maker {
 
     /// A generation has room for so many numbers and no more; with a range just
     /// above that its count has to grow.
-    fn shape_where_a_count_changes(&mut self) -> Shape {
+    fn shape_where_a_count_changes(&mut self) -> OldShape {
         let shape = self.shape_within_bounds();
-        let layout = match self.layouts.grant(shape, GROUPS_OFFERED) {
-            Ok(layout) => layout,
-            Err(_) => return shape,
-        };
+        match self.range_where_a_count_changes(&shape.in_form_0()) {
+            Some((_, v)) => OldShape { v, ..shape },
+            None => shape,
+        }
+    }
+
+    /// A generation of the layout, and as many numbers as it has patterns for, one fewer or
+    /// one more.
+    pub fn range_where_a_count_changes(&mut self, shape: &Shape) -> Option<(usize, u64)> {
+        let layout = self.layouts.grant(shape, GROUPS_OFFERED).ok()?;
         let generation = 1 + self.chance.index(layout.generations());
         let room = layout.room(generation, &mut self.layouts.counting);
         let room = room.to_u64().unwrap_or(LARGEST_RANGE);
-        let v = self.chance.pick(&[room - 1, room, room.saturating_add(1)]);
-        Shape { v, ..shape }
+        let range = self.chance.pick(&[room - 1, room, room.saturating_add(1)]);
+        Some((generation, range))
     }
 
     /// Mostly one number alone at a boundary or beyond, so that it decides.
-    pub fn shape_beyond_bounds(&mut self) -> Shape {
+    pub fn shape_beyond_bounds(&mut self) -> OldShape {
         let mut shape = self.small_shape();
         let alone = self.chance.index(3);
         let numbers = [&mut shape.m, &mut shape.t, &mut shape.v];
@@ -142,7 +154,7 @@ impl Maker {
     }
 
     /// Groups offered to a layout of this shape.
-    pub fn offered(&mut self, shape: Shape) -> u64 {
+    pub fn offered(&mut self, shape: &Shape) -> u64 {
         let needed = match self.layouts.grant(shape, GROUPS_OFFERED) {
             Ok(layout) => layout.groups() as u64,
             Err(_) => GROUPS_OFFERED,
@@ -157,4 +169,21 @@ impl Maker {
             _ => GROUPS_OFFERED,
         }
     }
+}
+
+/// Where the form or the count of ranges alone is at fault, a shape that has cells, so that
+/// the fault decides.
+pub fn shape_of_cells(shape: &Shape) -> Shape {
+    let mut of_cells = shape.clone();
+    of_cells.form = match (shape.form, shape.ranges.len()) {
+        (0..=2, _) => shape.form,
+        (_, 1) => 1,
+        _ => 2,
+    };
+    if GENERATION_BOUNDS.contains(&shape.t) {
+        let last = shape.ranges.last().copied().unwrap_or(2);
+        let due = of_cells.ranges_due() as usize;
+        of_cells.ranges.resize(due, last);
+    }
+    of_cells
 }

@@ -1,15 +1,14 @@
-use second::protocol::{Call, Limits, ManyCall};
-use second::stream::Maker;
+#[path = "streams.rs"]
+mod streams;
 
-const CALLS: usize = 20_000;
+use second::protocol::{Call, Limits, ManyCall};
 
 /// The calls of many numbers in a made stream.
 pub fn many_calls(seed: u64) -> Vec<ManyCall> {
-    let mut maker = Maker::new(seed, Limits::USUAL);
-    let of_many = |call| match call {
-        Call::Many(call) => Some(call),
+    let of_many = |call: &Call| match call {
+        Call::Many(call) => Some(call.clone()),
         _ => None,
     };
-    let calls = (0..CALLS).map(|_| maker.call());
-    calls.filter_map(of_many).collect()
+    let calls = streams::calls(seed, Limits::USUAL);
+    calls.iter().filter_map(of_many).collect()
 }

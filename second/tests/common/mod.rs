@@ -4,11 +4,11 @@ use second::field::{self, Reading, Written};
 use second::layout::{Layouts, Shape};
 use second::refusal::Refusal;
 
-pub fn read(shape: Shape, cells: &[u8]) -> Result<Reading, Refusal> {
+pub fn read(shape: &Shape, cells: &[u8]) -> Result<Reading, Refusal> {
     field::read(shape, cells, &mut Layouts::default())
 }
 
-pub fn write(shape: Shape, number: u64, cells: &[u8]) -> Result<Written, Refusal> {
+pub fn write(shape: &Shape, number: u64, cells: &[u8]) -> Result<Written, Refusal> {
     field::write(shape, number, cells, &mut Layouts::default())
 }
 
