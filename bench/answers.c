@@ -10,7 +10,11 @@
 #include <stdlib.h>
 #include <string.h>
 
-enum { MOST_BYTES = 262144, MOST_OUTPUT = 262144, MOST_NUMBERS = 128, OUTPUT_FILL = 0xa5, ROWS_AT_ONCE = 7 };
+enum {
+    MOST_BYTES = 262144, MOST_OUTPUT = 262144, MOST_NUMBERS = 128, OUTPUT_FILL = 0xa5, ROWS_AT_ONCE = 7,
+    MOST_RANGES = 64,    /* of a call, so that more can be asked for than a shape may have */
+    SHAPE_RANGES = 16,   /* that a shape has room for */
+};
 
 struct lent {
     size_t count;
@@ -69,10 +73,21 @@ static void put_hex(const uint8_t *bytes, size_t count)
     }
 }
 
+/* Ranges that a shape has no room for only count: the call has to refuse so many. What stands behind is not looked at. */
 static struct gorvlime_shape get_shape(void)
 {
-    uint64_t form = get_number(), m = get_number(), t = get_number(), v = get_number();
-    return (struct gorvlime_shape){.form = form, .m = m, .t = t, .v = v};
+    struct gorvlime_shape shape;
+    memset(shape.v, OUTPUT_FILL, sizeof shape.v);
+    shape.form = get_number();
+    shape.m = get_number();
+    shape.t = get_number();
+    shape.count = get_count(MOST_RANGES);
+    for (size_t i = 0; i < shape.count; i++) {
+        uint64_t range = get_number();
+        if (i < SHAPE_RANGES)
+            shape.v[i] = range;
+    }
+    return shape;
 }
 
 static void answer_layout(void)
@@ -258,17 +273,41 @@ static void answer_walk(struct lent *dump)
     put_ending(&w);
 }
 
+/* False: the layout that has a row's number is not the row's, has another count of ranges, or a range behind them. */
+static int is_listed(const uint64_t *row, const struct gorvlime_listed *listed)
+{
+    const struct gorvlime_shape *s = &listed->shape;
+    uint64_t same[] = {s->form, s->m, s->t, s->v[0]}, behind = 0;
+    for (size_t i = s->count; i < SHAPE_RANGES; i++)
+        behind |= s->v[i];
+    return listed->refusal == 0 && memcmp(row + 2, same, sizeof same) == 0 && behind == 0
+        && s->count == (s->form == 2 ? s->t : 1) && s->count <= SHAPE_RANGES;
+}
+
+/* As for an old dump, with all ranges of the layout where a row has the first. */
 static int put_new_record(const struct lent *dump, const uint64_t *row, size_t *at)
 {
     struct gorvlime_found_new s = CALL(step_new)(dump->bytes, dump->count, *at);
+    struct gorvlime_listed listed = CALL(listed_shape)(dump->bytes, dump->count, row[1]);
     uint64_t same[GORVLIME_ROW_NEW] = {
-        s.serial, s.layout, s.shape.form, s.shape.m, s.shape.t, s.shape.v,
-        s.start, s.length, s.refused, s.generation, s.number, s.left, s.unerased,
+        s.serial, s.layout, s.form, s.m, s.t, s.v, s.start, s.length, s.refused, s.generation, s.number, s.left, s.unerased,
     };
-    put_numbers("record", row, 8);
+    if (!is_listed(row, &listed))
+        return 0;
+    put_numbers("record", row, 5);
+    put_numbers("", listed.shape.v, listed.shape.count);
+    put_numbers("", row + 6, 2);
     put_reply(row + 8);
     *at = s.next;
     return s.refusal == 0 && s.records == 1 && s.offset == 0 && memcmp(row, same, sizeof same) == 0;
+}
+
+/* A dump whose list is refused has no layout, and no other has one more than it lists. */
+static int is_listed_no_more(const struct lent *dump, const struct gorvlime_opened *opened)
+{
+    static const struct gorvlime_shape none;
+    struct gorvlime_listed listed = CALL(listed_shape)(dump->bytes, dump->count, opened->layouts);
+    return listed.refusal == (opened->refusal != 0 ? opened->refusal : 1) && memcmp(&listed.shape, &none, sizeof none) == 0;
 }
 
 static int is_where_new_steps_end(const struct lent *dump, const struct gorvlime_walked *w, size_t at)
@@ -285,7 +324,8 @@ static void answer_walk_new(struct lent *dump)
     get_bytes(dump);
     struct gorvlime_opened opened = CALL(open_new)(dump->bytes, dump->count);
     size_t at = opened.first, next = opened.first;
-    int same = opened.offset == 0 && (opened.refusal == 0 || opened.layouts + opened.first == 0);
+    int same = opened.offset == 0 && (opened.refusal == 0 || opened.layouts + opened.first == 0)
+        && is_listed_no_more(dump, &opened);
     do {
         w = CALL(walk_new)(dump->bytes, dump->count, next, rows, sizeof rows / sizeof rows[0]);
         next = w.next;

@@ -1,7 +1,8 @@
 /*
  * What the archive costs beside plain C: all calls on the drives' field, m 2, t 10, v 2^56, 64 of them written at once and
- * one by one, refused writes, reads in form 1, reads and writes on the largest fields and on a small one, a dump of full
- * size to HEX and back, a new dump of full size, and dumps of two sizes moved both ways.
+ * one by one, refused writes, reads in form 1, layout, reads and writes in form 2 with ranges that fall from 2^56 to 2^20,
+ * reads and writes on the largest fields and on a small one, a dump of full size to HEX and back, a new dump of full size,
+ * and dumps of two sizes moved both ways.
  *
  *     bench list               the cases, a line for each: calls in one run of it, records and bytes of the dump that it
  *                              goes through (0 for none), and its name
@@ -11,25 +12,14 @@
  */
 #define _POSIX_C_SOURCE 199309L   /* clock_gettime */
 
-#include "plain.h"
+#include "samples.h"
 
 #include <stdio.h>
 #include <stdlib.h>
 #include <string.h>
 #include <time.h>
 
-#define RANGE ((uint64_t)1 << 56)
-
-enum {
-    MOST_GENERATIONS = 16, MOST_CELLS = 64, MOST_RECORD = 85, CHAINS = 8,
-    DUMP = 65536,
-    /* So many records have a serial of 3 bytes, and the others one of 2, which fills a dump to its last byte. */
-    OLD_RECORDS = 1337, OLD_LONG_SERIALS = 23, NEW_RECORDS = 1680, NEW_LONG_SERIALS = 3,
-    /* The first records of the old dump, in half of its bytes. */
-    HALF_RECORDS = 668,
-    ROWS = (NEW_RECORDS + 1) * GORVLIME_ROW_NEW,
-    TEXT = 180236,   /* characters of 65,536 bytes in HEX */
-};
+enum { ROWS = (NEW_RECORDS + 1) * GORVLIME_ROW_NEW };
 
 struct calls {
     struct gorvlime_counts (*layout)(struct gorvlime_shape, uint64_t);
@@ -56,31 +46,7 @@ static const struct calls archive = {
     gorvlime_hex_export, gorvlime_hex_import,
 };
 
-/* A field, and chains of writes from blank cells to its last generation. */
-struct sample {
-    struct gorvlime_shape shape;
-    size_t cells;
-    uint64_t numbers[CHAINS][MOST_GENERATIONS];
-    uint8_t written[CHAINS][MOST_GENERATIONS][MOST_CELLS];   /* after each write of a chain */
-};
-
-static struct sample drives = {.shape = {.m = 2, .t = 10, .v = RANGE}, .cells = 35};
-static struct sample widest_2 = {.shape = {.m = 2, .t = 16, .v = RANGE}, .cells = 49};
-static struct sample widest_3 = {.shape = {.m = 3, .t = 16, .v = RANGE}, .cells = 57};
-static struct sample widest_4 = {.shape = {.m = 4, .t = 16, .v = RANGE}, .cells = 64};
-static struct sample new_drives = {.shape = {.form = 1, .m = 2, .t = 10, .v = RANGE}, .cells = 35};
-static struct sample small = {.shape = {.m = 2, .t = 3, .v = 4}, .cells = 1};
-
-/* Of the drives' fields. A walk starts at `first`. */
-struct dump {
-    unsigned records;
-    size_t first, count;
-    uint8_t bytes[DUMP];
-};
-
-static struct dump old_dump, half_dump, new_dump, moved_dump, moved_half;
 static uint64_t rows[ROWS];
-static uint8_t text[TEXT];   /* the old dump in HEX */
 static uint8_t out[TEXT];    /* of a HEX call or a move, or the cells of many fields */
 static uint64_t quarter[GORVLIME_MANY];   /* numbers for as many fields */
 static uint64_t answers;     /* all answers of a run, folded into one number */
@@ -156,7 +122,7 @@ static void run_export(const struct calls *c, const struct task *t)
     struct gorvlime_shape f = s->shape;
     for (unsigned i = 0; i < CHAINS; i++) {
         const uint8_t *cells = s->written[i][t->generation - 1];
-        fold(c->export(300 + i, f.m, f.t, f.v, cells, s->cells, record, sizeof record).length);
+        fold(c->export(300 + i, f.m, f.t, f.v[0], cells, s->cells, record, sizeof record).length);
         fold(record[20]);
     }
 }
@@ -188,7 +154,7 @@ static void run_hex_export(const struct calls *c, const struct task *t)
 
 static void run_hex_import(const struct calls *c, const struct task *t)
 {
-    fold(c->hex_import(text, TEXT, out, t->dump->count).length);
+    fold(c->hex_import(hex_text, TEXT, out, t->dump->count).length);
 }
 
 static const struct task cases[] = {
@@ -217,86 +183,23 @@ static const struct task cases[] = {
     {CHAINS, 10, run_reads, &widest_4, 8, NULL, "m 4, t 16, v 2^56: read at generation 8"},
     {CHAINS, 1, run_writes, &widest_4, 16, NULL, "m 4, t 16, v 2^56: 16 writes"},
     {CHAINS, 10, run_reads, &new_drives, 5, NULL, "form 1: read at generation 5"},
+    {CHAINS, 20, run_layout, &shrinking, 1, NULL, "form 2, v 2^56 to 2^20: layout"},
+    {CHAINS, 10, run_reads, &shrinking, 5, NULL, "form 2, v 2^56 to 2^20: read at generation 5"},
+    {CHAINS, 1, run_writes, &shrinking, 10, NULL, "form 2, v 2^56 to 2^20: ten writes"},
     {CHAINS, 100, run_reads, &small, 2, NULL, "m 2, t 3, v 4: read at generation 2"},
     {CHAINS, 100, run_writes, &small, 3, NULL, "m 2, t 3, v 4: 3 writes"},
 };
 
 enum { CASES = sizeof cases / sizeof cases[0] };
 
-/* Numbers with no pattern to them, the same in every run. */
-static uint64_t draw(void)
-{
-    static uint64_t state = 1;
-    state = state * 6364136223846793005u + 1442695040888963407u;
-    return state >> 8;
-}
-
-/* Numbers from 1 on, so that every write uses a generation up. */
-static void write_chains(struct sample *s)
-{
-    for (unsigned i = 0; i < CHAINS; i++) {
-        uint8_t cells[MOST_CELLS] = {0};
-        for (unsigned j = 0; j < s->shape.t; j++) {
-            s->numbers[i][j] = 1 + draw() % (s->shape.v - 1);
-            if (plain_write(s->shape, cells, s->cells, s->numbers[i][j]).refusal != 0)
-                abort();
-            memcpy(s->written[i][j], cells, s->cells);
-        }
-    }
-}
-
-/* Adds records that differ in serial and cells only; what stands between comes from one with a serial of one byte. */
-static void add_records(struct dump *d, unsigned records, unsigned long_serials, const uint8_t *record, size_t length)
-{
-    size_t between = length - 1 - drives.cells;
-    d->records = records;
-    for (unsigned i = 0; i < records; i++) {
-        uint64_t serial = i < long_serials ? 20000 + i : 128 + i;
-        for (; serial >= 128; serial >>= 7)
-            d->bytes[d->count++] = serial | 128;
-        d->bytes[d->count++] = serial;
-        memcpy(d->bytes + d->count, record + 1, between);
-        memcpy(d->bytes + d->count + between, drives.written[i % CHAINS][i % drives.shape.t], drives.cells);
-        d->count += between + drives.cells;
-    }
-}
-
-static void make_moved(struct dump *moved, const struct dump *old)
-{
-    moved->records = old->records;
-    moved->count = plain_move_to_new(old->bytes, old->count, moved->bytes, DUMP).length;
-    moved->first = plain_open_new(moved->bytes, moved->count).first;
-}
-
-/* The dumps, and the text of the old one. */
-static void make_dumps(void)
-{
-    uint8_t record[MOST_RECORD];
-    struct gorvlime_shape f = drives.shape;
-    const uint8_t *cells = drives.written[0][0];
-    size_t length = plain_export(0, f.m, f.t, f.v, cells, drives.cells, record, sizeof record).length;
-    add_records(&old_dump, OLD_RECORDS, OLD_LONG_SERIALS, record, length);
-    add_records(&half_dump, HALF_RECORDS, OLD_LONG_SERIALS, record, length);
-    new_dump.bytes[0] = 1;
-    new_dump.first = new_dump.count = 1 + plain_export_layout(f, new_dump.bytes + 1, DUMP - 1).length;
-    length = plain_export_record(0, 0, f, cells, drives.cells, record, sizeof record).length;
-    add_records(&new_dump, NEW_RECORDS, NEW_LONG_SERIALS, record, length);
-    make_moved(&moved_dump, &old_dump);
-    make_moved(&moved_half, &half_dump);
-    if (old_dump.count != DUMP || new_dump.count != DUMP || moved_dump.count == 0
-        || plain_hex_export(old_dump.bytes, DUMP, text, TEXT).length != TEXT)
-        abort();
-}
-
 /* What a case runs over. It is made once. */
 static void prepare(unsigned i)
 {
-    if (cases[i].sample->numbers[0][0] == 0)
-        write_chains(cases[i].sample);
+    prepare_chains(cases[i].sample);
     for (unsigned j = 0; j < GORVLIME_MANY; j++)
         quarter[j] = drives.numbers[j % CHAINS][j / CHAINS];
-    if (cases[i].dump != NULL && cases[i].dump->count == 0)
-        make_dumps();
+    if (cases[i].dump != NULL)
+        prepare_dumps();
 }
 
 static void list_cases(void)

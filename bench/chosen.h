@@ -1,6 +1,6 @@
 /*
- * CALL(read) is gorvlime_read of the archive where GORVLIME is defined, and else plain_read. SHAPE(m, t, v) is a shape of
- * form 0.
+ * CALL(read) is gorvlime_read of the archive where GORVLIME is defined, and else plain_read. A shape begins as
+ * ONE_RANGE(form, m, t, v), or in form 2 as RANGES(m, t, v_1, .., v_t); SHAPE(m, t, v) is one of form 0.
  */
 #ifndef CHOSEN_H
 #define CHOSEN_H
@@ -13,6 +13,8 @@
 #define CALL(name) plain_##name
 #endif
 
-#define SHAPE(M, T, V) ((struct gorvlime_shape){.m = (M), .t = (T), .v = (V)})
+#define ONE_RANGE(FORM, M, T, V) {.form = (FORM), .m = (M), .t = (T), .count = 1, .v = {(V)}}
+#define RANGES(M, T, ...) {.form = 2, .m = (M), .t = (T), .count = (T), .v = {__VA_ARGS__}}
+#define SHAPE(M, T, V) ((struct gorvlime_shape)ONE_RANGE(0, M, T, V))
 
 #endif

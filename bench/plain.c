@@ -4,7 +4,9 @@
  * No number needs more than 64 bits, although a list of counts is easily written down that does. The search for a count goes
  * up by one group at a time and stops at the first with v patterns or more. Before its last step the sum is at most 2^56 and
  * the count below 2^8; after it the sum is below 0.88 * 2^64 (the most is at m 4, next count 121). So a pattern's number fits
- * too. Working out a binomial never goes above it times k (k - 1) or times n, which are below 2^58.
+ * too. This holds for every next count that ranges up to 2^56 can lead to, in whatever order they stand: a count grows with
+ * each range. A low range behind a high one makes a step long, up to 35 at m 2, so that more than half of the places may be
+ * written; the products on the way to a binomial, also where it falls again, stay below 2^59.
  */
 #include "plain_field.h"
 #include "plain_words.h"
@@ -16,12 +18,12 @@ struct deal {
     unsigned places, b, first;
 };
 
-/* The least h with base^h - 1 >= v. */
-static unsigned last_count(unsigned base, uint64_t v)
+/* The least h with as many numbers of h digits as are needed: base^h. */
+static unsigned last_count(unsigned base, uint64_t needed)
 {
     uint64_t power = 1;
     unsigned h = 0;
-    while (power <= v) {
+    while (power < needed) {
         power *= base;
         h++;
     }
@@ -29,14 +31,15 @@ static unsigned last_count(unsigned base, uint64_t v)
 }
 
 /*
- * The least h above `next` with v patterns that write `first` to h - next of the h places.
- * The sum starts from the pattern that writes nothing. One place more, of which one more may be written: the new place is
- * blank or holds one of b values beside any pattern so far, or it is blank and one of the others more is written.
+ * The least h above `next` with as many patterns as are needed that write at most h - next of the h places.
+ * The sum starts at one place more than `next`, of which none or one is written. One place more, of which one more may be
+ * written: the new place is blank or holds one of b values beside any pattern so far, or it is blank and one of the others
+ * more is written.
  */
-static unsigned least_count(unsigned next, unsigned b, unsigned first, uint64_t v)
+static unsigned least_count(unsigned next, unsigned b, uint64_t needed)
 {
-    uint64_t sum = 1, term = 1, h = next, k = 0;
-    while (sum < v + first) {
+    uint64_t k = 1, h = next + 1, term = next * b, sum = 1 + h * b;
+    while (sum < needed) {
         k++;
         term = term * h / k * b;   /* C(h, k) b^k */
         sum = sum * (b + 1) + term;
@@ -45,22 +48,42 @@ static unsigned least_count(unsigned next, unsigned b, unsigned first, uint64_t 
     return h;
 }
 
-void plain_lay_out(struct field *f, struct gorvlime_shape shape)
+static int is_in_bounds(const struct gorvlime_shape *s)
 {
-    uint64_t m = shape.m, t = shape.t, v = shape.v;
-    f->m = m;
-    f->t = t;
-    f->v = v;
-    f->refusal = GORVLIME_BOUNDS;
-    if (shape.form > 1 || m < 2 || m > 4 || t < 2 || t > MOST_GENERATIONS || v < 2 || v > MOST_RANGE)
+    if (s->form > RANGED || s->m < 2 || s->m > 4 || s->t < FEWEST_GENERATIONS || s->t > MOST_GENERATIONS
+        || s->count != ranges_due(s->form, s->t))
+        return 0;
+    for (uint64_t i = 0; i < s->count; i++)
+        if (s->v[i] < 2 || s->v[i] > MOST_RANGE)
+            return 0;
+    return 1;
+}
+
+/*
+ * From the last generation back to the first. All zeros are a number in generation 1 of form 0 alone: every other generation
+ * needs one pattern more than its range.
+ */
+void plain_lay_out(struct field *f, const struct gorvlime_shape *shape)
+{
+    f->refusal = is_in_bounds(shape) ? GORVLIME_ACCEPTED : GORVLIME_BOUNDS;
+    if (f->refusal != GORVLIME_ACCEPTED)
         return;
-    unsigned ones = (1u << m) - 1;
-    f->first = shape.form;
-    f->h[t - 1] = last_count(ones, v);
-    for (unsigned i = t - 2; i > 0; i--)
-        f->h[i] = least_count(f->h[i + 1], ones - 1, 1, v);
-    f->h[0] = least_count(f->h[1], ones, f->first, v);
-    f->refusal = GORVLIME_ACCEPTED;
+    unsigned i = shape->t - 1, ones = (1u << shape->m) - 1;
+    uint64_t needed = shape->v[shape->count - 1] + 1;
+    f->m = shape->m;
+    f->t = shape->t;
+    f->v = shape->v;
+    f->ranged = shape->form == RANGED;
+    f->first = shape->form > 0;
+    unsigned h = last_count(ones, needed);
+    f->h[i] = h;
+    while (--i > 0) {
+        if (f->ranged)
+            needed = shape->v[i] + 1;
+        h = least_count(h, ones - 1, needed);
+        f->h[i] = h;
+    }
+    f->h[0] = least_count(h, ones, shape->v[0] + f->first);
 }
 
 struct gorvlime_counts plain_layout(struct gorvlime_shape shape, uint64_t g)
@@ -71,7 +94,7 @@ struct gorvlime_counts plain_layout(struct gorvlime_shape shape, uint64_t g)
         answer.refusal = GORVLIME_BOUNDS;
         return answer;
     }
-    plain_lay_out(&f, shape);
+    plain_lay_out(&f, &shape);
     answer.refusal = f.refusal;
     if (answer.refusal == GORVLIME_ACCEPTED && f.h[0] > g)
         answer.refusal = GORVLIME_NO_ROOM;
@@ -262,7 +285,7 @@ static int is_blank(const struct field *f, const struct words *w)
     return w->zeros == f->h[0];
 }
 
-/* Of cells that are not blank, or of form 0. */
+/* Of cells that are not blank, or of form 0, where blank cells are generation 1. */
 static struct gorvlime_reading read_words(const struct field *f, struct words *w)
 {
     unsigned i = generation_of(f, w->zeros);
@@ -272,7 +295,7 @@ static struct gorvlime_reading read_words(const struct field *f, struct words *w
     else if (w->unerased != d.places)
         return (struct gorvlime_reading){.refusal = GORVLIME_MISCOUNTED, .generation = i, .unerased = w->unerased};
     uint64_t number = i == f->t ? digits_number(w) : pattern_number(w, d);
-    if (number >= f->v)
+    if (number >= range_of(f, i))
         return (struct gorvlime_reading){.refusal = GORVLIME_BEYOND, .generation = i};
     return (struct gorvlime_reading){.generation = i, .number = number, .left = is_blank(f, w) ? f->t : f->t - i};
 }
@@ -292,7 +315,7 @@ struct gorvlime_reading plain_read_cells(const struct field *f, const uint8_t *c
 struct gorvlime_reading plain_read(struct gorvlime_shape shape, const uint8_t *cells, size_t cells_count)
 {
     struct field f;
-    plain_lay_out(&f, shape);
+    plain_lay_out(&f, &shape);
     return plain_read_cells(&f, cells, cells_count);
 }
 
@@ -317,7 +340,7 @@ static void write_words(const struct field *f, struct words *w, unsigned i, uint
         set_pattern(w, deal_of(f, i), number);
 }
 
-/* The generation that a write takes, or why there is none. Blank cells need no reading: form 1 has none for them. */
+/* The generation that a write takes, or why there is none. Blank cells need no reading: forms 1 and 2 have none for them. */
 static struct gorvlime_writing next_generation(const struct field *f, struct words *w)
 {
     if (is_blank(f, w))
@@ -330,11 +353,12 @@ static struct gorvlime_writing next_generation(const struct field *f, struct wor
     return (struct gorvlime_writing){.generation = r.generation + 1};
 }
 
+/* One range is tested before the cells are read; which of several counts is told by the generation, behind 5. */
 struct gorvlime_writing plain_write_cells(const struct field *f, uint8_t *cells, size_t count, uint64_t number)
 {
     struct gorvlime_writing answer = {.refusal = plain_misfit(f, cells, count)};
     struct words w;
-    if (answer.refusal == GORVLIME_ACCEPTED && number >= f->v)
+    if (answer.refusal == GORVLIME_ACCEPTED && !f->ranged && number >= range_of(f, 1))
         answer.refusal = GORVLIME_NUMBER;
     if (answer.refusal != GORVLIME_ACCEPTED)
         return answer;
@@ -342,6 +366,8 @@ struct gorvlime_writing plain_write_cells(const struct field *f, uint8_t *cells,
     answer = next_generation(f, &w);
     if (answer.refusal != GORVLIME_ACCEPTED)
         return answer;
+    if (f->ranged && number >= range_of(f, answer.generation))
+        return (struct gorvlime_writing){.refusal = GORVLIME_NUMBER};
     write_words(f, &w, answer.generation, number);
     answer.turned = store_cells(&w, cells, count);
     return answer;
@@ -350,6 +376,6 @@ struct gorvlime_writing plain_write_cells(const struct field *f, uint8_t *cells,
 struct gorvlime_writing plain_write(struct gorvlime_shape shape, uint8_t *cells, size_t cells_count, uint64_t number)
 {
     struct field f;
-    plain_lay_out(&f, shape);
+    plain_lay_out(&f, &shape);
     return plain_write_cells(&f, cells, cells_count, number);
 }

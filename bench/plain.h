@@ -27,6 +27,8 @@ struct gorvlime_stored plain_export_record(uint64_t serial, uint64_t layout, str
 
 struct gorvlime_opened plain_open_new(const uint8_t *dump, size_t dump_count);
 
+struct gorvlime_listed plain_listed_shape(const uint8_t *dump, size_t dump_count, uint64_t number);
+
 struct gorvlime_found_new plain_step_new(const uint8_t *dump, size_t dump_count, size_t at);
 
 struct gorvlime_walked plain_walk_new(const uint8_t *dump, size_t dump_count, size_t at, uint64_t *rows,

@@ -9,11 +9,12 @@ enum { NUMBERS_OF_A_RECORD = 5 };
 struct gorvlime_stored plain_export(uint64_t serial, uint64_t m, uint64_t t, uint64_t v, const uint8_t *cells,
                                       size_t cells_count, uint8_t *out, size_t out_count)
 {
+    struct gorvlime_shape shape = shape_of_form_0(m, t, v);
     struct field f;
     uint8_t head[NUMBERS_OF_A_RECORD * LONGEST_NUMBER];
     if (serial > MOST_SERIAL)
         return (struct gorvlime_stored){.refusal = GORVLIME_SERIAL};
-    plain_lay_out(&f, (struct gorvlime_shape){.m = m, .t = t, .v = v});
+    plain_lay_out(&f, &shape);
     uint64_t refusal = plain_misfit(&f, cells, cells_count);
     if (refusal != GORVLIME_ACCEPTED)
         return (struct gorvlime_stored){.refusal = refusal};
@@ -45,10 +46,11 @@ struct gorvlime_found plain_step(const uint8_t *dump, size_t dump_count, size_t 
         found.offset = at;
         return found;
     }
-    plain_lay_out(&f, r.shape);
+    struct gorvlime_shape shape = shape_of_form_0(r.m, r.t, r.v);
+    plain_lay_out(&f, &shape);
     struct gorvlime_reading reading = plain_read_cells(&f, dump + r.start, r.length);
     return (struct gorvlime_found){
-        .records = 1, .serial = r.serial, .m = r.shape.m, .t = r.shape.t, .v = r.shape.v,
+        .records = 1, .serial = r.serial, .m = r.m, .t = r.t, .v = r.v,
         .start = r.start, .length = r.length, .next = r.start + r.length,
         .refused = reading.refusal, .generation = reading.generation, .number = reading.number, .left = reading.left,
         .unerased = reading.unerased,
@@ -58,9 +60,9 @@ struct gorvlime_found plain_step(const uint8_t *dump, size_t dump_count, size_t 
 static void put_row(uint64_t *row, const struct record *r, const struct gorvlime_reading *reading)
 {
     row[0] = r->serial;
-    row[1] = r->shape.m;
-    row[2] = r->shape.t;
-    row[3] = r->shape.v;
+    row[1] = r->m;
+    row[2] = r->t;
+    row[3] = r->v;
     row[4] = r->start;
     row[5] = r->length;
     row[6] = reading->refusal;
@@ -73,6 +75,7 @@ static void put_row(uint64_t *row, const struct record *r, const struct gorvlime
 struct gorvlime_walked plain_walk(const uint8_t *dump, size_t dump_count, size_t at, uint64_t *rows, size_t rows_count)
 {
     struct gorvlime_walked walked = {.next = at};
+    struct gorvlime_shape kept = {.count = 1};   /* of the record before; at first a shape that is out of bounds */
     struct field f = {.refusal = GORVLIME_BOUNDS};
     struct record r;
     if (dump_count > MOST_DUMP)
@@ -87,8 +90,10 @@ struct gorvlime_walked plain_walk(const uint8_t *dump, size_t dump_count, size_t
             walked.offset = walked.next;
             break;
         }
-        if (r.shape.m != f.m || r.shape.t != f.t || r.shape.v != f.v)
-            plain_lay_out(&f, r.shape);
+        if (r.m != kept.m || r.t != kept.t || r.v != kept.v[0]) {
+            kept = shape_of_form_0(r.m, r.t, r.v);
+            plain_lay_out(&f, &kept);
+        }
         struct gorvlime_reading reading = plain_read_cells(&f, dump + r.start, r.length);
         put_row(rows, &r, &reading);
         walked.rows++;

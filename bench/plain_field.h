@@ -4,21 +4,36 @@
 
 #include "plain.h"
 
-enum { MOST_GENERATIONS = 16, MOST_GROUPS = 256 };
+/* The form with a range for each generation. */
+enum { RANGED = 2 };
+
+enum { FEWEST_GENERATIONS = 2, MOST_GENERATIONS = 16, MOST_GROUPS = 256 };
 
 /*
- * What a shape comes to. Out of bounds, refusal is 1, and `first` and the counts mean nothing. In bounds there is always
- * room in 256 groups: the first count is at most 194.
+ * What a shape comes to; the shape has to stay where it is while the field is used. Out of bounds, refusal is 1, and all else
+ * means nothing. In bounds there is always room in 256 groups: a count grows with each range, and the first is at most 194.
  */
 struct field {
-    uint64_t refusal, m, t, v;
-    unsigned first;   /* how many places generation 1 writes at least: 0 in form 0, 1 in form 1 */
+    uint64_t refusal, m, t;
+    const uint64_t *v;   /* of the shape */
+    int ranged;          /* each generation has a range of its own */
+    unsigned first;      /* how many places generation 1 writes at least: 0 in form 0, else 1 */
     unsigned h[MOST_GENERATIONS];
 };
 
-void plain_lay_out(struct field *f, struct gorvlime_shape shape);
+void plain_lay_out(struct field *f, const struct gorvlime_shape *shape);
 
-/* Of a field in bounds. */
+static inline uint64_t ranges_due(uint64_t form, uint64_t t)
+{
+    return form == RANGED ? t : 1;
+}
+
+/* Of generation i (from 1) of a field in bounds, as are the next two. */
+static inline uint64_t range_of(const struct field *f, unsigned i)
+{
+    return f->v[f->ranged ? i - 1 : 0];
+}
+
 static inline unsigned wits_of(const struct field *f)
 {
     return f->m * f->h[0];

@@ -2,7 +2,7 @@
 #include "plain_field.h"
 
 /* What refuses all of it before any field is written. */
-static uint64_t refusal_of_all(struct field *f, struct gorvlime_shape shape, size_t cells_count, size_t numbers_count)
+static uint64_t refusal_of_all(struct field *f, const struct gorvlime_shape *shape, size_t cells_count, size_t numbers_count)
 {
     if (numbers_count > GORVLIME_MANY)
         return GORVLIME_NUMBERS;
@@ -17,7 +17,7 @@ struct gorvlime_many plain_write_many(struct gorvlime_shape shape, uint8_t *cell
 {
     struct gorvlime_many answer = {0};
     struct field f;
-    answer.refusal = refusal_of_all(&f, shape, cells_count, numbers_count);
+    answer.refusal = refusal_of_all(&f, &shape, cells_count, numbers_count);
     if (answer.refusal != GORVLIME_ACCEPTED)
         return answer;
     size_t count = bytes_of(&f);

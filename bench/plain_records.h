@@ -9,10 +9,15 @@ enum { MOST_DUMP = 65536, LONGEST_NUMBER = 9 };
 static const uint64_t MOST_SERIAL = UINT64_MAX >> 1;
 
 struct record {
-    uint64_t serial, length;
-    struct gorvlime_shape shape;
+    uint64_t serial, m, t, v, length;
     size_t start;
 };
+
+/* What an old record and the old export say of a field. */
+static inline struct gorvlime_shape shape_of_form_0(uint64_t m, uint64_t t, uint64_t v)
+{
+    return (struct gorvlime_shape){.m = m, .t = t, .count = 1, .v = {v}};
+}
 
 static inline size_t put_number(uint8_t *out, uint64_t number)
 {
@@ -40,14 +45,13 @@ static inline int get_number(const uint8_t *dump, size_t count, size_t *at, uint
     return 0;
 }
 
-/* The record at an offset below the dump's end, which is of form 0. False: malformed. */
+/* The record at an offset below the dump's end. False: malformed. */
 static inline int get_record(const uint8_t *dump, size_t count, size_t at, struct record *r)
 {
-    if (!get_number(dump, count, &at, &r->serial) || !get_number(dump, count, &at, &r->shape.m)
-        || !get_number(dump, count, &at, &r->shape.t) || !get_number(dump, count, &at, &r->shape.v)
+    if (!get_number(dump, count, &at, &r->serial) || !get_number(dump, count, &at, &r->m)
+        || !get_number(dump, count, &at, &r->t) || !get_number(dump, count, &at, &r->v)
         || !get_number(dump, count, &at, &r->length))
         return 0;
-    r->shape.form = 0;
     r->start = at;
     return r->length <= count - at;
 }

@@ -25,12 +25,13 @@ static struct drive new_drive = {
         .form = 1,
         .m = 2,             /* wits in a group */
         .t = 10,            /* the field can be written ten times */
-        .v = 1ull << 56,    /* the counter is below this */
+        .count = 1,         /* with one range for all ten; form 2 has one for each */
+        .v = {1ull << 56},  /* the counter is below this */
     },
 };
 
 /* Drives in service stay with form 0, which is what a form left out means. */
-static struct drive old_drive = {.name = "old drive", .shape = {.m = 2, .t = 10, .v = 1ull << 56}};
+static struct drive old_drive = {.name = "old drive", .shape = {.m = 2, .t = 10, .count = 1, .v = {1ull << 56}}};
 
 /* Is the block of cells as large as the field? Ask once, when the board is designed or starts. */
 static int is_right_size(const struct drive *d)
@@ -106,7 +107,7 @@ static void write_quarter(const uint64_t *numbers, size_t count)
 static void export_counter(const struct drive *d, uint64_t serial)
 {
     uint8_t record[85];   /* no record is longer */
-    struct gorvlime_stored exported = gorvlime_export(serial, d->shape.m, d->shape.t, d->shape.v, d->cells,
+    struct gorvlime_stored exported = gorvlime_export(serial, d->shape.m, d->shape.t, d->shape.v[0], d->cells,
                                                         sizeof d->cells, record, sizeof record);
     if (exported.refusal != GORVLIME_ACCEPTED) {
         printf("%s: no record, refusal %" PRIu64 "\n", d->name, exported.refusal);
@@ -116,10 +117,10 @@ static void export_counter(const struct drive *d, uint64_t serial)
         printf("%02X%c", record[i], i + 1 < exported.length ? ' ' : '\n');
 }
 
-/* A new dump says each layout once and holds fields of either form. */
+/* A new dump says each layout once and holds fields of every form. */
 static struct {
     size_t count;
-    uint8_t bytes[1 + 2 * 12 + 2 * 75];   /* the count of layouts, two layouts and two records; none is longer */
+    uint8_t bytes[1 + 2 * 12 + 2 * 75];   /* the count of layouts, two of one range and two records; none is longer */
 } dump;
 
 #define REST_OF_DUMP dump.bytes + dump.count, sizeof dump.bytes - dump.count
@@ -171,13 +172,13 @@ int main(void)
     write_counter(&new_drive, 0);
     read_counter(&new_drive);
     write_counter(&new_drive, 1000);
-    write_counter(&new_drive, new_drive.shape.v);
+    write_counter(&new_drive, new_drive.shape.v[0]);
     read_counter(&new_drive);
     read_counter(&old_drive);
     write_counter(&old_drive, 1000);
     write_counter(&old_drive, 1001);
     write_quarter((const uint64_t[]){640, 0, 118204}, 3);
-    write_quarter((const uint64_t[]){655, new_drive.shape.v, 119530}, 3);
+    write_quarter((const uint64_t[]){655, new_drive.shape.v[0], 119530}, 3);
     export_counter(&old_drive, 300);
     make_dump();
     list_dump();

@@ -2,20 +2,21 @@
  * Gorvlime: numbers kept in write-once cells by the position modulation code of Wu and Jiang.
  *
  * A wit is one write-once cell: it leaves the factory as 0, can be turned to 1, and never goes back. A field is a run of
- * wits that holds one number and can still be given a new one t times. Four numbers say what a field is like, its shape:
+ * wits that holds one number and can still be given a new one t times. A few numbers say what a field is like, its shape:
  *
- *     form                      0 or 1        what blank cells mean: 0, for drives in service, the number 0;
- *                                             1, for new drives, no number yet
+ *     form                      0 to 2        what blank cells mean: 0, for drives in service, the number 0;
+ *                                             1 and 2, for new drives, no number yet
  *     m   wits in a group       2 to 4
  *     t   generations           2 to 16       how often the field can be written
- *     v   range                 2 to 2^56     the numbers are 0 to v - 1
+ *     v   range                 2 to 2^56     the numbers are 0 to v - 1. Form 2 has t ranges, one for each generation:
+ *                                             the i-th number written is below the i-th range
  *
  * Ask gorvlime_layout once how large the field is, keep that many bytes of cells, all zeros at first, and hand them to
  * gorvlime_write and gorvlime_read; gorvlime_write_many writes up to 64 fields of one shape at once. gorvlime_export makes
  * a record of a field, records one after the other are a dump, and gorvlime_step and gorvlime_walk list a dump. A new dump
  * says each layout once, in front, and holds fields of every form: gorvlime_export_layout and gorvlime_export_record make
- * it, gorvlime_open_new, gorvlime_step_new and gorvlime_walk_new list it, gorvlime_move_to_new and gorvlime_move_to_old
- * turn one kind of dump into the other. examples/board.c shows all of the board's side on one page.
+ * it, gorvlime_open_new, gorvlime_listed_shape, gorvlime_step_new and gorvlime_walk_new list it, gorvlime_move_to_new and
+ * gorvlime_move_to_old turn one kind of dump into the other. examples/board.c shows all of the board's side on one page.
  * gorvlime_hex_export and gorvlime_hex_import turn bytes into Intel HEX and back, for the bench that programs new
  * boards; examples/bench.c does so with a file.
  *
@@ -43,25 +44,31 @@ extern "C" {
 #endif
 
 /*
- * Why a call was refused. The tests are made in the order of this list, and the first that holds is the answer. A HEX
- * text is tested line by line: 23, 20, 21, 22, 24 at one line, the same at the next, and 9 when all lines have passed.
- * A move tests 8 a second time, of what it would store: right before 9. Write many tests 3 once for all bytes together,
- * then 3, 6, 15, 16, 5 at one field, and the same at the next when that one is written.
+ * Why a call was refused. The tests are made in the order of this list, and the first that holds is the answer. In form 2
+ * the writes test 6 last, behind 5, since the generation tells which range counts. A HEX text is tested line by line: 23, 20,
+ * 21, 22, 24 at one line, the same at the next, and 9 when all lines have passed. A move tests 8 a second time, of what it
+ * would store: right before 9. Write many tests 3 once for all bytes together, then 3, 6, 15, 16, 5 at one field, and the
+ * same at the next when that one is written. The listed shape tests 1 behind 8 and 7.
  */
 enum gorvlime_refusal {
     GORVLIME_ACCEPTED = 0,      /* from                  when                                               */
     GORVLIME_NUMBERS = 14,      /* write many            more than 64 numbers                               */
     GORVLIME_SERIAL = 10,       /* exports of a record   the serial is above 2^63 - 1                       */
-    GORVLIME_BOUNDS = 1,        /* all with m, t, v      the form, m, t, v or g is outside its bounds, or   */
-                                /*                       the layout number is above 63                      */
+    GORVLIME_BOUNDS = 1,        /* all with m, t, v      the form, m, t, a range or g is outside its        */
+                                /*                       bounds, another count of ranges than the form has, */
+                                /*                       or the layout number is above 63                   */
+                                /* listed shape          no layout of the list has the number               */
     GORVLIME_NO_ROOM = 2,       /* all with m, t, v      the field needs more than g groups                 */
     GORVLIME_CELLS = 3,         /* read, writes, exports another count of bytes, or a 1 behind the last wit */
                                 /* of a record                                                              */
-    GORVLIME_BLANK = 11,        /* read                  the field is of form 1 and nothing is written yet  */
-    GORVLIME_NUMBER = 6,        /* writes                the number is v or more                            */
+    GORVLIME_BLANK = 11,        /* read                  the field is of form 1 or 2 and nothing is written */
+                                /*                       yet                                                */
+    GORVLIME_NUMBER = 6,        /* writes                the number is not below the range; in form 2 not   */
+                                /*                       below that of the generation it would be put into  */
     GORVLIME_MISCOUNTED = 15,   /* read, writes          another number of unerased groups than the         */
                                 /*                       generation has                                     */
-    GORVLIME_BEYOND = 16,       /* read, writes          the number is not below the range                  */
+    GORVLIME_BEYOND = 16,       /* read, writes          the number in the cells is not below the range of  */
+                                /*                       its generation                                     */
     GORVLIME_SPENT = 5,         /* writes                all t generations are written                      */
     GORVLIME_TOO_LONG = 8,      /* all with a dump       the dump has more than 65,536 bytes                */
                                 /* HEX export            more than 65,536 bytes                             */
@@ -82,12 +89,21 @@ enum gorvlime_refusal {
  * What a field is like. It never changes for a field: another shape reads other numbers. The form does not change
  * either: a drive that is in service with form 0 stays with it. Name the fields,
  *
- *     (struct gorvlime_shape){ .m = 2, .t = 10, .v = 1ull << 56 }               a drive in service
- *     (struct gorvlime_shape){ .form = 1, .m = 2, .t = 10, .v = 1ull << 56 }    a new drive
+ *     { .m = 2, .t = 10, .count = 1, .v = { 1ull << 56 } }                        a drive in service
+ *     { .form = 1, .m = 2, .t = 10, .count = 1, .v = { 1ull << 56 } }             a new drive
+ *     { .form = 2, .m = 2, .t = 3, .count = 3, .v = { 1ull << 56, 5000, 20 } }    a new drive whose numbers get shorter
  *
  * since later versions of the library add some. A field that is left out is 0.
+ *
+ * `count` says how many ranges are given in v: 1 in forms 0 and 1, where all generations have that range, and t in form 2,
+ * where generation i has v[i - 1]. Any other count, also one left out, is refused with 1. The ranges of form 2 may fall, rise
+ * or be equal; with equal ones it is form 1 but for the place of refusal 6. What stands behind the ranges given is not
+ * looked at.
  */
-struct gorvlime_shape { uint64_t form, m, t, v; };
+struct gorvlime_shape {
+    uint64_t form, m, t, count;
+    uint64_t v[16];
+};
 
 /*
  * How large a field is.
@@ -95,7 +111,8 @@ struct gorvlime_shape { uint64_t form, m, t, v; };
  * Takes the shape and g, the groups that there is room for, 0 to 256. Answers the counts h_1 > h_2 > .. > h_t in h[0] to
  * h[t - 1], zeros behind: generation i uses h_i groups, and no smaller counts would do. The field takes m * h[0] wits, which
  * is (m * h[0] + 7) / 8 bytes of cells, never more than 64. Only the layout asks about g: the other calls work with g = 256,
- * where every field has room. The form changes h[0] alone, and only where v is just what form 0 has patterns for.
+ * where every field has room. Between forms 0 and 1 only h[0] differs, and only where v is just what form 0 has patterns
+ * for. In form 2 each h_i is the least for its own range and those behind it.
  * Refusals: 1, 2.
  */
 struct gorvlime_counts { uint64_t refusal; uint64_t h[16]; };
@@ -107,8 +124,9 @@ struct gorvlime_counts gorvlime_layout(struct gorvlime_shape shape, uint64_t g);
  *
  * Takes the field's shape and its cells, exactly as many bytes as the layout says. Wit w of the field is bit
  * 7 - (w mod 8) of byte w / 8, bit 7 being the high one; bits behind the last wit are 0. Answers the generation of the last
- * write (1 to t), the number (0 to v - 1), and how many writes are left. Blank cells of form 0 read as generation 1,
- * number 0, with t writes left; those of form 1 are refused with 11, since no number was written.
+ * write (1 to t), the number (below the range, in form 2 below that of the generation), and how many writes are left.
+ * Blank cells of form 0 read as generation 1, number 0, with t writes left; those of forms 1 and 2 are refused with 11, since
+ * no number was written.
  *
  * Cells that no whole write leaves have no number, and none may be guessed from them. They are refused with 15 or 16 and
  * tell the generation i that the count of their zero groups points to. With 15 they also tell `unerased`, how many groups
@@ -132,9 +150,12 @@ struct gorvlime_reading gorvlime_read(struct gorvlime_shape shape, const uint8_t
  *
  * Takes the field's shape, its cells and the number, 0 to v - 1, and turns wits in the cells from 0 to 1, never back.
  * Answers the generation just written and how many wits were turned. In form 0, writing 0 on blank cells turns none and
- * leaves them blank. Every other write, in form 1 every write, turns some wits and uses one of the t up.
+ * leaves them blank. Every other write, in forms 1 and 2 every write, turns some wits and uses one of the t up.
+ * In form 2 the range is that of the generation which the number is put into: v[0] on blank cells, v[i] on cells that read
+ * as generation i. Spent cells take no number, whatever it is: 5.
  * Refused with 15 or 16 it tells generation and unerased of the cells, as gorvlime_read does, and turned is 0.
- * Refusals: 1, 2, 3, 6, 15, 16, 5. Blank cells of form 1 are written as any others and never refused with 11.
+ * Refusals: 1, 2, 3, 6, 15, 16, 5; in form 2 they are 1, 2, 3, 15, 16, 5, 6. Blank cells of forms 1 and 2 are written as any
+ * others and never refused with 11.
  */
 struct gorvlime_writing { uint64_t refusal, generation, turned, unerased; };
 
@@ -158,7 +179,7 @@ struct gorvlime_writing gorvlime_write(struct gorvlime_shape shape, uint8_t *cel
  * refused and all behind it are as they were. `stopped` tells the two kinds of 3 apart. To go on behind a refused field,
  * hand in the fields behind it alone: those before it are written.
  * The answer has 304 bytes, which the caller has room for beside what the call itself takes.
- * Refusals: 14, 1, 2, 3; then at each field 3, 6, 15, 16, 5.
+ * Refusals: 14, 1, 2, 3; then at each field 3, 6, 15, 16, 5, or in form 2 3, 15, 16, 5, 6.
  */
 #define GORVLIME_MANY 64
 
@@ -176,8 +197,8 @@ struct gorvlime_many gorvlime_write_many(struct gorvlime_shape shape, uint8_t *c
  *
  * Takes a serial of your choice (0 to 2^63 - 1), the field's m, t, v and cells, and an output. Stores the record at the front
  * of the output, leaves the bytes behind it as they are, and answers the record's length, at most 85 bytes. Cells that have
- * no reading are exported too. A record has no place for the form and is read as form 0: a field of form 1 goes into a new
- * dump.
+ * no reading are exported too. A record has no place for the form and is read as form 0: a field of another form goes into a
+ * new dump.
  * A record is serial, m, t, v, the count of cell bytes, then these bytes. Each number is groups of seven bits, lowest first,
  * the top bit set on all but the last.
  * Refusals: 10, 1, 2, 3, 9.
@@ -237,21 +258,23 @@ struct gorvlime_walked gorvlime_walk(const uint8_t *dump, size_t dump_count, siz
 /*
  * New dumps.
  *
- * A new dump is the count of its layouts, 0 to 64, then form, m, t, v of each, then records of serial, layout number, the
- * count of cell bytes and these bytes; all numbers are groups of seven bits as in an old dump. The layout number is the
- * place in the list, from 0. Nothing in the bytes tells the two kinds of dump apart: who stores a dump notes its kind.
+ * A new dump is the count of its layouts, 0 to 64, then form, m, t, v of each, with t ranges for v in form 2, then records
+ * of serial, layout number, the count of cell bytes and these bytes; all numbers are groups of seven bits as in an old dump.
+ * The layout number is the place in the list, from 0. Nothing in the bytes tells the two kinds of dump apart: who stores a
+ * dump notes its kind.
  *
- * A list whose count is above 64 or in which a number is malformed is refused with 7 at offset 0. A listed layout that is
- * out of bounds, or of a form that there is not, is whole all the same: each record that uses it is refused with 1 of its
- * own. A record whose layout number is not below the count is malformed.
+ * A list whose count is above 64, in which a number is malformed, or in which a form 2 has t outside 2 to 16, so that no one
+ * can tell how many ranges follow, is refused with 7 at offset 0. Any other listed layout that is out of bounds, or of a form
+ * that there is not, which has one range, is whole all the same: each record that uses it is refused with 1 of its own. A
+ * record whose layout number is not below the count is malformed.
  */
 
 /*
  * One layout for the list of a new dump.
  *
- * Takes a shape and an output, stores form, m, t, v at the front of the output, leaves the bytes behind them as they are,
- * and answers how many they are, at most 12. The count of layouts, in front of the first one, is one byte that the board
- * writes itself.
+ * Takes a shape and an output, stores form, m, t and the ranges given at the front of the output, leaves the bytes behind
+ * them as they are, and answers how many they are: at most 12 with one range, and 147 with sixteen. The count of layouts,
+ * in front of the first one, is one byte that the board writes itself.
  * Refusals: 1, 2, 9.
  */
 struct gorvlime_stored gorvlime_export_layout(struct gorvlime_shape shape, uint8_t *out, size_t out_count);
@@ -262,7 +285,7 @@ struct gorvlime_stored gorvlime_export_layout(struct gorvlime_shape shape, uint8
  * Takes a serial of your choice (0 to 2^63 - 1), the number of the field's layout in the list (0 to 63), the field's shape,
  * which is that layout, its cells and an output. Stores the record at the front of the output, leaves the bytes behind it
  * as they are, and answers its length, at most 75 bytes. The list is not lent: that the shape is the listed one is up to
- * you. Cells that have no reading, blank ones of form 1 too, are exported as any others.
+ * you. Cells that have no reading, blank ones of forms 1 and 2 too, are exported as any others.
  * Refusals: 10, 1, 2, 3, 9.
  */
 struct gorvlime_stored gorvlime_export_record(uint64_t serial, uint64_t layout, struct gorvlime_shape shape,
@@ -279,25 +302,36 @@ struct gorvlime_opened { uint64_t refusal, offset, layouts, first; };
 struct gorvlime_opened gorvlime_open_new(const uint8_t *dump, size_t dump_count);
 
 /*
+ * One layout of a new dump, with all its ranges.
+ *
+ * Takes a new dump and the number of a layout, which is its place in the list, from 0. Answers the layout as it is listed, in
+ * bounds or not: form, m, t, the count of its ranges, which is t in form 2 and 1 in every other, and the ranges, zeros behind
+ * them. Handed to the other calls, it is the shape of the fields that have this layout.
+ * Refusals: 8; 7 for a broken list, which is at offset 0; then 1 for a number that is not below the count of layouts.
+ */
+struct gorvlime_listed { uint64_t refusal; struct gorvlime_shape shape; };
+
+struct gorvlime_listed gorvlime_listed_shape(const uint8_t *dump, size_t dump_count, uint64_t number);
+
+/*
  * One record of a new dump.
  *
  * Takes a new dump of at most 65,536 bytes and the offset of a record in it: the `first` of gorvlime_open_new, then the
  * `next` of the step before. A record is read wherever the offset points, inside the list too; at or past the dump's end
  * is the end.
  *
- *     a record    refusal 0, records 1; its serial, the number of its layout and the listed shape; its cells are the
- *                 dump's bytes start to start + length - 1; next, where the next step starts; then what gorvlime_read says
- *                 of the cells: `refused`, which is 0 or the record's own refusal 1, 2, 3, 11, 15 or 16, and generation,
- *                 number, left and unerased
+ *     a record    refusal 0, records 1; its serial, the number of its layout and the listed form, m, t and v, which is the
+ *                 first range, and the only one but in form 2; its cells are the dump's bytes start to start + length - 1;
+ *                 next, where the next step starts; then what gorvlime_read says of the cells: `refused`, which is 0 or the
+ *                 record's own refusal 1, 2, 3, 11, 15 or 16, and generation, number, left and unerased
  *     the end     refusal 0, records 0
  *     refused     refusal 8; or 7 with offset 0 for the list, or with the offset of the record's first byte; records 0
  *
- * What is not named for a case is 0 in it. Each step passes over the list again and works out the layout: for more than a
- * few records take gorvlime_walk_new.
+ * What is not named for a case is 0 in it. gorvlime_listed_shape tells the other ranges of form 2. Each step passes over the
+ * list again and works out the layout: for more than a few records take gorvlime_walk_new.
  */
 struct gorvlime_found_new {
-    uint64_t refusal, offset, records, serial, layout;
-    struct gorvlime_shape shape;
+    uint64_t refusal, offset, records, serial, layout, form, m, t, v;
     uint64_t start, length, next, refused, generation, number, left, unerased;
 };
 
@@ -307,8 +341,9 @@ struct gorvlime_found_new gorvlime_step_new(const uint8_t *dump, size_t dump_cou
  * Many records of a new dump: the same as steps from `at` on, and quicker where records repeat a layout.
  *
  * All is as in gorvlime_walk, but that a row has GORVLIME_ROW_NEW numbers, in the order serial, layout, form, m, t, v, start,
- * length, refused, generation, number, left, unerased; that `at` is the `first` of gorvlime_open_new to begin with; and that
- * a broken list is refused with 7 whatever the room, with all else 0. It passes over the list once.
+ * length, refused, generation, number, left, unerased, where v is the first range as in a step; that `at` is the `first` of
+ * gorvlime_open_new to begin with; and that a broken list is refused with 7 whatever the room, with all else 0. It passes
+ * over the list once.
  */
 #define GORVLIME_ROW_NEW 13
 

@@ -261,10 +261,13 @@ int main(int count, char **words)
     check_chains();
     check_published_field();
     check_forms();
+    check_ranges();
+    check_range_chains();
     check_unreadable();
     check_many_fields();
     check_dump_calls();
     check_new_dump_calls();
+    check_listed_ranges();
     check_moves();
     check_hex_calls();
     return done(atoi(words[1]));

@@ -39,25 +39,22 @@ static const struct {
     {1, 2, 2, 13, 257, 1, {0}},
     {1, 2, 2, 1, 256, 1, {0}},
     {1, 2, 2, RANGE + 1, 256, 1, {0}},
-    {2, 2, 2, 20, 256, 1, {0}},
     {3, 2, 2, 20, 256, 1, {0}},
+    {4, 2, 2, 20, 256, 1, {0}},
     {255, 2, 2, 20, 256, 1, {0}},
     {256, 2, 2, 20, 256, 1, {0}},
     {BIT_32, 2, 2, 20, 256, 1, {0}},
     {BIT_32 + 1, 2, 2, 20, 256, 1, {0}},
     {UINT64_MAX, 2, 2, 20, 256, 1, {0}},
     /* The form is tested before room. */
-    {2, 2, 2, 20, 0, 1, {0}},
+    {3, 2, 2, 20, 0, 1, {0}},
 };
 
 static void check_layouts(void)
 {
     for (size_t i = 0; i < sizeof layouts / sizeof layouts[0]; i++) {
-        struct gorvlime_shape shape = {
-            .form = layouts[i].form, .m = layouts[i].m, .t = layouts[i].t, .v = layouts[i].v,
-        };
-        calling("layout form %" PRIu64 " m %" PRIu64 " t %" PRIu64 " v %" PRIu64 " g %" PRIu64, shape.form, shape.m,
-                shape.t, shape.v, layouts[i].g);
+        struct gorvlime_shape shape = ONE_RANGE(layouts[i].form, layouts[i].m, layouts[i].t, layouts[i].v);
+        calling("layout %s g %" PRIu64, told(shape), layouts[i].g);
         struct gorvlime_counts c = CALL(layout)(shape, layouts[i].g);
         same("refusal", c.refusal, layouts[i].refusal);
         for (unsigned j = 0; j < 16; j++)
@@ -95,9 +92,9 @@ static const struct {
     {1, 2, 2, 13, "00", 3, 0, 0, 0, 0},
     {1, 2, 2, 13, "00 00", 11, 0, 0, 0, 0},
     {1, 1, 3, 4, "00", 1, 0, 0, 0, 0},
-    {2, 2, 3, 4, "00", 1, 0, 0, 0, 0},
-    {2, 2, 3, 4, "01", 1, 0, 0, 0, 0},
-    {2, 2, 3, 4, "", 1, 0, 0, 0, 0},
+    {3, 2, 3, 4, "00", 1, 0, 0, 0, 0},
+    {3, 2, 3, 4, "01", 1, 0, 0, 0, 0},
+    {3, 2, 3, 4, "", 1, 0, 0, 0, 0},
     {257, 2, 3, 4, "01", 1, 0, 0, 0, 0},
     {BIT_32, 2, 3, 4, "00", 1, 0, 0, 0, 0},
     {BIT_32 + 1, 2, 3, 4, "01", 1, 0, 0, 0, 0},
@@ -108,11 +105,8 @@ static void check_reads(void)
 {
     for (size_t i = 0; i < sizeof reads / sizeof reads[0]; i++) {
         struct lent cells = lend(reads[i].cells);
-        struct gorvlime_shape shape = {
-            .form = reads[i].form, .m = reads[i].m, .t = reads[i].t, .v = reads[i].v,
-        };
-        calling("read form %" PRIu64 " m %" PRIu64 " t %" PRIu64 " v %" PRIu64 " cells %s", shape.form, shape.m,
-                shape.t, shape.v, reads[i].cells);
+        struct gorvlime_shape shape = ONE_RANGE(reads[i].form, reads[i].m, reads[i].t, reads[i].v);
+        calling("read %s cells %s", told(shape), reads[i].cells);
         struct gorvlime_reading r = CALL(read)(shape, LENT(cells));
         same("refusal", r.refusal, reads[i].refusal);
         same("generation", r.generation, reads[i].generation);
@@ -152,8 +146,8 @@ static const struct {
     {1, 2, 2, 20, "00 01", 0, 3, 0, 0, 0, NULL},
     {1, 2, 2, 20, "00 01", 20, 3, 0, 0, 0, NULL},
     {1, 2, 2, 20, "00", 20, 3, 0, 0, 0, NULL},
-    {2, 2, 3, 4, "00", 0, 1, 0, 0, 0, NULL},
-    {2, 2, 3, 4, "", 4, 1, 0, 0, 0, NULL},
+    {3, 2, 3, 4, "00", 0, 1, 0, 0, 0, NULL},
+    {3, 2, 3, 4, "", 4, 1, 0, 0, 0, NULL},
     {256, 2, 3, 4, "00", 0, 1, 0, 0, 0, NULL},
     {BIT_32 + 1, 2, 3, 4, "00", 0, 1, 0, 0, 0, NULL},
     {UINT64_MAX, 2, 3, 4, "00", 0, 1, 0, 0, 0, NULL},
@@ -163,11 +157,8 @@ static void check_writes(void)
 {
     for (size_t i = 0; i < sizeof writes / sizeof writes[0]; i++) {
         struct lent cells = lend(writes[i].cells);
-        struct gorvlime_shape shape = {
-            .form = writes[i].form, .m = writes[i].m, .t = writes[i].t, .v = writes[i].v,
-        };
-        calling("write form %" PRIu64 " m %" PRIu64 " t %" PRIu64 " v %" PRIu64 " cells %s number %" PRIu64, shape.form,
-                shape.m, shape.t, shape.v, writes[i].cells, writes[i].number);
+        struct gorvlime_shape shape = ONE_RANGE(writes[i].form, writes[i].m, writes[i].t, writes[i].v);
+        calling("write %s cells %s number %" PRIu64, told(shape), writes[i].cells, writes[i].number);
         struct gorvlime_writing w = CALL(write)(shape, LENT(cells), writes[i].number);
         same("refusal", w.refusal, writes[i].refusal);
         same("generation", w.generation, writes[i].generation);
@@ -178,11 +169,11 @@ static void check_writes(void)
 }
 
 /* A written 0 and the last number in range; the ranges 13, 22 and 46 are sums of condition b at t 2. */
-static void check_ranges(uint64_t m, uint64_t t)
+static void check_each_range(uint64_t m, uint64_t t)
 {
     static const uint64_t ranges[] = {2, 13, 22, 46, 1000, RANGE};
     for (size_t i = 0; i < sizeof ranges / sizeof ranges[0]; i++) {
-        struct gorvlime_shape shape = {.form = 1, .m = m, .t = t, .v = ranges[i]};
+        struct gorvlime_shape shape = ONE_RANGE(1, m, t, ranges[i]);
         check_chain(shape, 0);
         check_chain(shape, ranges[i] - 1);
     }
@@ -192,7 +183,7 @@ static void check_chains(void)
 {
     for (uint64_t m = 2; m <= 4; m++)
         for (uint64_t t = 2; t <= 16; t++)
-            check_ranges(m, t);
+            check_each_range(m, t);
 }
 
 void check_forms(void)

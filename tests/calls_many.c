@@ -31,41 +31,52 @@ static const struct {
     struct gorvlime_many expected;
     const char *after;
 } writes[] = {
-    {{0, 2, 3, 4}, "00 00 00", 3, {3, 1, 2}, {0, 0, 0, 3, 0, 0, {1, 1, 1}, {2, 1, 1}}, "03 01 02"},
-    {{0, 2, 3, 4}, "03 0B 00", 3, {1, 2, 0}, {0, 0, 0, 3, 0, 0, {2, 3, 1}, {1, 2, 0}}, "0B 4F 00"},
-    {{1, 2, 3, 4}, "00 00 00", 3, {0, 0, 0}, {0, 0, 0, 3, 0, 0, {1, 1, 1}, {1, 1, 1}}, "01 01 01"},
-    {{0, 2, 3, 4}, "00", 1, {0}, {0, 0, 0, 1, 0, 0, {1}, {0}}, NULL},
-    {{0, 2, 3, 4}, "", 0, {0}, {0}, NULL},
+    {ONE_RANGE(0, 2, 3, 4), "00 00 00", 3, {3, 1, 2}, {0, 0, 0, 3, 0, 0, {1, 1, 1}, {2, 1, 1}}, "03 01 02"},
+    {ONE_RANGE(0, 2, 3, 4), "03 0B 00", 3, {1, 2, 0}, {0, 0, 0, 3, 0, 0, {2, 3, 1}, {1, 2, 0}}, "0B 4F 00"},
+    {ONE_RANGE(1, 2, 3, 4), "00 00 00", 3, {0, 0, 0}, {0, 0, 0, 3, 0, 0, {1, 1, 1}, {1, 1, 1}}, "01 01 01"},
+    {ONE_RANGE(0, 2, 3, 4), "00", 1, {0}, {0, 0, 0, 1, 0, 0, {1}, {0}}, NULL},
+    {ONE_RANGE(0, 2, 3, 4), "", 0, {0}, {0}, NULL},
     /* A stop, its refusal and its field. */
-    {{0, 2, 3, 4}, "03 4F 00", 3, {1, 1, 1}, {5, 1, 1, 1, 0, 0, {2}, {1}}, "0B 4F 00"},
-    {{0, 2, 3, 4}, "00 00 00", 3, {3, 4, 2}, {6, 1, 1, 1, 0, 0, {1}, {2}}, "03 00 00"},
-    {{0, 2, 3, 4}, "00 43 00", 3, {3, 1, 2}, {16, 1, 1, 1, 2, 0, {1}, {2}}, "03 43 00"},
-    {{0, 2, 3, 4}, "03 0F 00", 3, {1, 1, 1}, {15, 1, 1, 1, 2, 2, {2}, {1}}, "0B 0F 00"},
-    {{0, 2, 3, 4}, "00 00 FF", 3, {3, 1, 2}, {15, 1, 2, 2, 3, 0, {1, 1}, {2, 1}}, "03 01 FF"},
-    {{0, 2, 3, 4}, "54", 1, {3}, {15, 1, 0, 0, 3, 4, {0}, {0}}, NULL},
-    {{0, 2, 3, 4}, "4F 00 00", 3, {3, 1, 2}, {5, 1, 0, 0, 0, 0, {0}, {0}}, NULL},
-    {{0, 2, 2, 20}, "00 40 00 41 00 40", 3, {0, 0, 0}, {3, 1, 1, 1, 0, 0, {2}, {4}}, "C1 C0 00 41 00 40"},
-    {{0, 2, 2, 20}, "00 01", 1, {0}, {3, 1, 0, 0, 0, 0, {0}, {0}}, NULL},
+    {ONE_RANGE(0, 2, 3, 4), "03 4F 00", 3, {1, 1, 1}, {5, 1, 1, 1, 0, 0, {2}, {1}}, "0B 4F 00"},
+    {ONE_RANGE(0, 2, 3, 4), "00 00 00", 3, {3, 4, 2}, {6, 1, 1, 1, 0, 0, {1}, {2}}, "03 00 00"},
+    {ONE_RANGE(0, 2, 3, 4), "00 43 00", 3, {3, 1, 2}, {16, 1, 1, 1, 2, 0, {1}, {2}}, "03 43 00"},
+    {ONE_RANGE(0, 2, 3, 4), "03 0F 00", 3, {1, 1, 1}, {15, 1, 1, 1, 2, 2, {2}, {1}}, "0B 0F 00"},
+    {ONE_RANGE(0, 2, 3, 4), "00 00 FF", 3, {3, 1, 2}, {15, 1, 2, 2, 3, 0, {1, 1}, {2, 1}}, "03 01 FF"},
+    {ONE_RANGE(0, 2, 3, 4), "54", 1, {3}, {15, 1, 0, 0, 3, 4, {0}, {0}}, NULL},
+    {ONE_RANGE(0, 2, 3, 4), "4F 00 00", 3, {3, 1, 2}, {5, 1, 0, 0, 0, 0, {0}, {0}}, NULL},
+    {ONE_RANGE(0, 2, 2, 20), "00 40 00 41 00 40", 3, {0, 0, 0}, {3, 1, 1, 1, 0, 0, {2}, {4}}, "C1 C0 00 41 00 40"},
+    {ONE_RANGE(0, 2, 2, 20), "00 01", 1, {0}, {3, 1, 0, 0, 0, 0, {0}, {0}}, NULL},
     /* The order of the tests at a field: 3, 6, 15, 16, 5. */
-    {{0, 2, 2, 20}, "00 00 02 81", 2, {16, 20}, {3, 1, 1, 1, 0, 0, {1}, {2}}, "01 40 02 81"},
-    {{0, 2, 2, 20}, "00 00 FF C0", 2, {16, 20}, {6, 1, 1, 1, 0, 0, {1}, {2}}, "01 40 FF C0"},
-    {{0, 2, 2, 20}, "00 00 02 80", 2, {16, 20}, {6, 1, 1, 1, 0, 0, {1}, {2}}, "01 40 02 80"},
-    {{0, 2, 2, 20}, "00 00 C1 C0", 2, {16, UINT64_MAX}, {6, 1, 1, 1, 0, 0, {1}, {2}}, "01 40 C1 C0"},
-    {{0, 2, 2, 20}, "00 00 FF C0", 2, {16, 19}, {15, 1, 1, 1, 2, 0, {1}, {2}}, "01 40 FF C0"},
-    {{0, 2, 2, 20}, "00 00 02 80", 2, {16, 19}, {16, 1, 1, 1, 1, 0, {1}, {2}}, "01 40 02 80"},
-    {{0, 2, 2, 20}, "00 00 C1 C0", 2, {16, 19}, {5, 1, 1, 1, 0, 0, {1}, {2}}, "01 40 C1 C0"},
+    {ONE_RANGE(0, 2, 2, 20), "00 00 02 81", 2, {16, 20}, {3, 1, 1, 1, 0, 0, {1}, {2}}, "01 40 02 81"},
+    {ONE_RANGE(0, 2, 2, 20), "00 00 FF C0", 2, {16, 20}, {6, 1, 1, 1, 0, 0, {1}, {2}}, "01 40 FF C0"},
+    {ONE_RANGE(0, 2, 2, 20), "00 00 02 80", 2, {16, 20}, {6, 1, 1, 1, 0, 0, {1}, {2}}, "01 40 02 80"},
+    {ONE_RANGE(0, 2, 2, 20), "00 00 C1 C0", 2, {16, UINT64_MAX}, {6, 1, 1, 1, 0, 0, {1}, {2}}, "01 40 C1 C0"},
+    {ONE_RANGE(0, 2, 2, 20), "00 00 FF C0", 2, {16, 19}, {15, 1, 1, 1, 2, 0, {1}, {2}}, "01 40 FF C0"},
+    {ONE_RANGE(0, 2, 2, 20), "00 00 02 80", 2, {16, 19}, {16, 1, 1, 1, 1, 0, {1}, {2}}, "01 40 02 80"},
+    {ONE_RANGE(0, 2, 2, 20), "00 00 C1 C0", 2, {16, 19}, {5, 1, 1, 1, 0, 0, {1}, {2}}, "01 40 C1 C0"},
+    /* In form 2 each field has the range of its own generation. */
+    {RANGES(2, 3, 20, 4, 2), "00 0E 8F", 3, {19, 3, 1}, {0, 0, 0, 3, 0, 0, {1, 2, 3}, {3, 2, 2}}, "0E 8F EF"},
+    {RANGES(2, 3, 20, 4, 2), "00 0E 00", 3, {19, 4, 0}, {6, 1, 1, 1, 0, 0, {1}, {3}}, "0E 0E 00"},
+    {RANGES(2, 3, 20, 4, 2), "00 0E 8F", 3, {19, 3, 2}, {6, 1, 2, 2, 0, 0, {1, 2}, {3, 2}}, "0E 8F 8F"},
+    /* The order of its tests at a field: 3, 15, 16, 5, 6. */
+    {RANGES(2, 2, 20, 20), "00 00 02 81", 2, {16, 20}, {3, 1, 1, 1, 0, 0, {1}, {2}}, "01 80 02 81"},
+    {RANGES(2, 2, 20, 20), "00 00 FF C0", 2, {16, 20}, {15, 1, 1, 1, 2, 0, {1}, {2}}, "01 80 FF C0"},
+    {RANGES(2, 2, 20, 20), "00 00 02 C0", 2, {16, 20}, {16, 1, 1, 1, 1, 0, {1}, {2}}, "01 80 02 C0"},
+    {RANGES(2, 2, 20, 20), "00 00 C1 C0", 2, {16, UINT64_MAX}, {5, 1, 1, 1, 0, 0, {1}, {2}}, "01 80 C1 C0"},
+    {RANGES(2, 2, 20, 20), "00 00 00 40", 2, {16, 20}, {6, 1, 1, 1, 0, 0, {1}, {2}}, "01 80 00 40"},
     /* And of all fields, before any is written: 1, 3. */
-    {{0, 5, 3, 4}, "00 00", 2, {3, 1}, {.refusal = 1}, NULL},
-    {{0, 5, 3, 4}, "00", 0, {0}, {.refusal = 1}, NULL},
-    {{2, 2, 3, 4}, "00", 1, {3}, {.refusal = 1}, NULL},
-    {{0, 2, 17, 4}, "", 1, {4}, {.refusal = 1}, NULL},
-    {{0, 2, 3, RANGE + 1}, "", 0, {0}, {.refusal = 1}, NULL},
-    {{0, 2, 3, 4}, "00", 0, {0}, {.refusal = 3}, NULL},
-    {{0, 2, 3, 4}, "", 1, {3}, {.refusal = 3}, NULL},
-    {{0, 2, 3, 4}, "00 00", 3, {3, 3, 3}, {.refusal = 3}, NULL},
-    {{0, 2, 3, 4}, "00 00 00 00", 3, {4, 3, 3}, {.refusal = 3}, NULL},
-    {{0, 2, 2, 20}, "00 00 00", 3, {3, 3, 3}, {.refusal = 3}, NULL},
-    {{0, 2, 2, 20}, "00 00 00 00 00", 3, {3, 3, 3}, {.refusal = 3}, NULL},
+    {ONE_RANGE(0, 5, 3, 4), "00 00", 2, {3, 1}, {.refusal = 1}, NULL},
+    {ONE_RANGE(0, 5, 3, 4), "00", 0, {0}, {.refusal = 1}, NULL},
+    {ONE_RANGE(3, 2, 3, 4), "00", 1, {3}, {.refusal = 1}, NULL},
+    {RANGES(2, 3, 20, 4, 1), "00", 1, {3}, {.refusal = 1}, NULL},
+    {ONE_RANGE(0, 2, 17, 4), "", 1, {4}, {.refusal = 1}, NULL},
+    {ONE_RANGE(0, 2, 3, RANGE + 1), "", 0, {0}, {.refusal = 1}, NULL},
+    {ONE_RANGE(0, 2, 3, 4), "00", 0, {0}, {.refusal = 3}, NULL},
+    {ONE_RANGE(0, 2, 3, 4), "", 1, {3}, {.refusal = 3}, NULL},
+    {ONE_RANGE(0, 2, 3, 4), "00 00", 3, {3, 3, 3}, {.refusal = 3}, NULL},
+    {ONE_RANGE(0, 2, 3, 4), "00 00 00 00", 3, {4, 3, 3}, {.refusal = 3}, NULL},
+    {ONE_RANGE(0, 2, 2, 20), "00 00 00", 3, {3, 3, 3}, {.refusal = 3}, NULL},
+    {ONE_RANGE(0, 2, 2, 20), "00 00 00 00 00", 3, {3, 3, 3}, {.refusal = 3}, NULL},
 };
 
 static void check_values(void)
@@ -83,7 +94,9 @@ static void check_values(void)
 /* One number too many is refused whatever else is wrong. */
 static void check_too_many(void)
 {
-    static const struct gorvlime_shape shapes[] = {{0, 2, 3, 4}, {0, 5, 3, 4}, {2, 2, 3, 4}};
+    static const struct gorvlime_shape shapes[] = {
+        ONE_RANGE(0, 2, 3, 4), ONE_RANGE(0, 5, 3, 4), ONE_RANGE(3, 2, 3, 4), RANGES(2, 3, 4, 4, 4), {0},
+    };
     static const uint64_t numbers[2 * GORVLIME_MANY];
     for (unsigned i = 0; i < sizeof shapes / sizeof shapes[0]; i++) {
         for (size_t count = TOO_MANY; count <= 2 * GORVLIME_MANY; count += GORVLIME_MANY - 1) {
@@ -111,7 +124,19 @@ static uint8_t *field_of(struct strip *s, size_t i)
     return s->all + MARGIN + i * s->bytes;
 }
 
-/* Field i is written i modulo t times, so that each has a write left, and its number is in range. */
+/* How often a field has been written when its strip is lent: less than t times, so that each has a write left. */
+static uint64_t times_written(const struct strip *s, size_t i)
+{
+    return i % s->shape.t;
+}
+
+/* The range of the generation that the number of a field is to be put into. */
+static uint64_t range_due(const struct strip *s, size_t i)
+{
+    return range_at(&s->shape, times_written(s, i) + 1);
+}
+
+/* Each number is in range. */
 static struct strip lend_strip(struct gorvlime_shape shape)
 {
     struct gorvlime_counts counts = CALL(layout)(shape, 256);
@@ -120,9 +145,9 @@ static struct strip lend_strip(struct gorvlime_shape shape)
     memset(s.all, UNTOUCHED, sizeof s.all);
     memset(field_of(&s, 0), 0, GORVLIME_MANY * s.bytes);
     for (size_t i = 0; i < GORVLIME_MANY; i++) {
-        s.numbers[i] = (i + 1) * 0x9e3779b97f4a7c15 % shape.v;
-        for (size_t j = 0; j < i % shape.t; j++)
-            CALL(write)(shape, field_of(&s, i), s.bytes, 1 + j % (shape.v - 1));
+        s.numbers[i] = (i + 1) * 0x9e3779b97f4a7c15 % range_due(&s, i);
+        for (uint64_t j = 0; j < times_written(&s, i); j++)
+            CALL(write)(shape, field_of(&s, i), s.bytes, 1 + j % (range_at(&shape, j + 1) - 1));
     }
     return s;
 }
@@ -175,7 +200,7 @@ static void check_counts(struct gorvlime_shape shape)
     for (unsigned i = 0; i < sizeof counts / sizeof counts[0]; i++) {
         struct strip s = lend_strip(shape);
         size_t count = counts[i];
-        calling("write many of m %" PRIu64 " t %" PRIu64 ", %zu numbers", shape.m, shape.t, count);
+        calling("write many of %s, %zu numbers", told(shape), count);
         check_length(&s, count, 0);
         check_length(&s, count, count * s.bytes - 1);
         check_length(&s, count, count * s.bytes + 1);
@@ -200,7 +225,7 @@ static void spoil(struct strip *s, size_t i, uint64_t refusal)
 {
     uint8_t *cells = field_of(s, i);
     if (refusal == 6)
-        s->numbers[i] = s->shape.v;
+        s->numbers[i] = range_due(s, i);
     if (refusal == 3)
         cells[s->bytes - 1] |= 1;
     for (uint64_t j = 0; refusal == 5 && j < s->shape.t; j++)
@@ -225,8 +250,7 @@ static void check_stops(struct gorvlime_shape shape)
         spoil(&s, place, refusal);
         if (place + 2 < GORVLIME_MANY)
             spoil(&s, place + 2, 6);
-        calling("write many of m %" PRIu64 " t %" PRIu64 ", field %zu refused with %" PRIu64, shape.m, shape.t, place,
-                refusal);
+        calling("write many of %s, field %zu refused with %" PRIu64, told(shape), place, refusal);
         struct gorvlime_many stop = check_beside_single(&s, GORVLIME_MANY);
         same("the field that was spoilt", stop.field, place);
         same("fields before it", stop.written, place);
@@ -241,10 +265,10 @@ static void check_quarters(struct gorvlime_shape shape)
 {
     struct strip s = lend_strip(shape);
     memset(field_of(&s, 0), 0, GORVLIME_MANY * s.bytes);
-    for (uint64_t i = 0; i < GORVLIME_MANY; i++)
-        s.numbers[i] = 1 + i % (shape.v - 1);   /* a 0 would leave blank fields of form 0 blank */
     for (uint64_t i = 1; i <= shape.t; i++) {
-        calling("write many of m %" PRIu64 " t %" PRIu64 ", time %" PRIu64, shape.m, shape.t, i);
+        for (uint64_t j = 0; j < GORVLIME_MANY; j++)
+            s.numbers[j] = 1 + j % (range_at(&shape, i) - 1);   /* a 0 would leave blank fields of form 0 blank */
+        calling("write many of %s, time %" PRIu64, told(shape), i);
         struct gorvlime_many all = check_beside_single(&s, GORVLIME_MANY);
         same("fields written", all.written, GORVLIME_MANY);
         same("generation of the last", all.generation[GORVLIME_MANY - 1], i);
@@ -256,8 +280,9 @@ void check_many_fields(void)
 {
     /* Fields of one byte, with and without left-over bits, the drives' fields, and the longest ones. */
     static const struct gorvlime_shape shapes[] = {
-        {0, 2, 3, 4}, {1, 2, 2, 20}, {0, 3, 3, 100}, {0, 2, 10, RANGE}, {1, 2, 10, RANGE}, {1, 3, 16, RANGE},
-        {0, 4, 16, RANGE},
+        ONE_RANGE(0, 2, 3, 4), ONE_RANGE(1, 2, 2, 20), ONE_RANGE(0, 3, 3, 100), ONE_RANGE(0, 2, 10, RANGE),
+        ONE_RANGE(1, 2, 10, RANGE), ONE_RANGE(1, 3, 16, RANGE), ONE_RANGE(0, 4, 16, RANGE),
+        RANGES(2, 3, 20, 4, 3), RANGES(3, 3, 2, RANGE, 100), RANGES(2, 4, RANGE, RANGE >> 20, 1000, 3),
     };
     check_values();
     check_too_many();

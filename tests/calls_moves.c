@@ -60,7 +60,7 @@ static const struct move moves_to_old[] = {
     {"02 00 02 03 04 01 02 03 04 07 00 01 4F", 100, 12, 0, 0, ""},
     {"02 01 02 03 04 00 02 03 04 07 00 01 4F", 100, 12, 0, 0, ""},
     {"01 01 02 03 04", 0, 12, 0, 0, ""},
-    {"01 02 02 03 04", 0, 12, 0, 0, ""},
+    {"01 03 02 03 04", 0, 12, 0, 0, ""},
     {"01 80 02 02 03 04", 100, 12, 0, 0, ""},
     {"01 80 80 80 80 10 02 03 04", 100, 12, 0, 0, ""},
     {"01 01 02 03 04 07", 100, 7, 5, 0, ""},
@@ -190,9 +190,11 @@ static void check_long_lists(void)
 static void check_changing_layouts(void)
 {
     static const struct gorvlime_shape shapes[] = {
-        {0, 2, 2, 4}, {1, 2, 2, 4}, {0, 2, 2, 20}, {0, 2, 3, 20}, {0, 3, 3, 20}, {0, 2, 2, 4}, {1, 2, 2, 13}, {0, 2, 2, 13},
+        ONE_RANGE(0, 2, 2, 4), ONE_RANGE(1, 2, 2, 4), ONE_RANGE(0, 2, 2, 20), ONE_RANGE(0, 2, 3, 20), ONE_RANGE(0, 3, 3, 20),
+        ONE_RANGE(0, 2, 2, 4), ONE_RANGE(1, 2, 2, 13), ONE_RANGE(0, 2, 2, 13), RANGES(2, 2, 4, 4), RANGES(2, 3, 20, 4, 2),
+        RANGES(2, 3, 20, 2, 4), RANGES(2, 2, 20, 300),
     };
-    static const uint64_t order[] = {0, 0, 1, 2, 1, 3, 4, 5, 0, 6, 7, 6, 1, 0};
+    static const uint64_t order[] = {0, 0, 1, 2, 1, 3, 4, 5, 0, 6, 7, 6, 1, 0, 8, 1, 8, 9, 10, 9, 9, 11, 2, 11};
     enum { LAYOUTS = sizeof shapes / sizeof shapes[0], RECORDS = sizeof order / sizeof order[0], ROOM = 256 };
     uint8_t *dump = take(ROOM);
     uint64_t rows[RECORDS * GORVLIME_ROW_NEW];
@@ -214,9 +216,13 @@ static void check_changing_layouts(void)
     for (size_t i = 0, at = first; i < RECORDS; i++) {
         struct gorvlime_found_new s = CALL(step_new)(dump, count, at);
         uint64_t expected[GORVLIME_ROW_NEW] = {
-            i, order[i], s.shape.form, s.shape.m, s.shape.t, s.shape.v, s.start, s.length, 0, 1, 3, s.shape.t - 1, 0,
+            i, order[i], s.form, s.m, s.t, s.v, s.start, s.length, 0, 1, 3, s.t - 1, 0,
         };
-        same("the listed shape", memcmp(&s.shape, &shapes[order[i]], sizeof s.shape), 0);
+        const struct gorvlime_shape *shape = &shapes[order[i]];
+        same("form", s.form, shape->form);
+        same("m", s.m, shape->m);
+        same("t", s.t, shape->t);
+        same("v", s.v, shape->v[0]);
         for (unsigned j = 0; j < GORVLIME_ROW_NEW; j++)
             same("a number of the rows", rows[i * GORVLIME_ROW_NEW + j], expected[j]);
         at = s.next;

@@ -16,38 +16,36 @@ static const struct {
     uint64_t refusal, length;
     const char *out;
 } layouts[] = {
-    {{0, 2, 3, 4}, 4, 0, 4, "00 02 03 04"},
-    {{1, 2, 3, 4}, 4, 0, 4, "01 02 03 04"},
-    {{1, 2, 3, 4}, 9, 0, 4, "01 02 03 04"},
-    {{1, 2, 3, 4}, 3, 9, 0, ""},
-    {{1, 2, 3, 4}, 0, 9, 0, ""},
-    {{0, 4, 16, 127}, 4, 0, 4, "00 04 10 7F"},
-    {{0, 4, 16, 128}, 5, 0, 5, "00 04 10 80 01"},
-    {{0, 4, 16, 128}, 4, 9, 0, ""},
-    {{1, 2, 10, RANGE}, 12, 0, 12, "01 02 0A 80 80 80 80 80 80 80 80 01"},
-    {{1, 2, 10, RANGE}, 11, 9, 0, ""},
+    {ONE_RANGE(0, 2, 3, 4), 4, 0, 4, "00 02 03 04"},
+    {ONE_RANGE(1, 2, 3, 4), 4, 0, 4, "01 02 03 04"},
+    {ONE_RANGE(1, 2, 3, 4), 9, 0, 4, "01 02 03 04"},
+    {ONE_RANGE(1, 2, 3, 4), 3, 9, 0, ""},
+    {ONE_RANGE(1, 2, 3, 4), 0, 9, 0, ""},
+    {ONE_RANGE(0, 4, 16, 127), 4, 0, 4, "00 04 10 7F"},
+    {ONE_RANGE(0, 4, 16, 128), 5, 0, 5, "00 04 10 80 01"},
+    {ONE_RANGE(0, 4, 16, 128), 4, 9, 0, ""},
+    {ONE_RANGE(1, 2, 10, RANGE), 12, 0, 12, "01 02 0A 80 80 80 80 80 80 80 80 01"},
+    {ONE_RANGE(1, 2, 10, RANGE), 11, 9, 0, ""},
     /* The order of the tests: 1, 9. */
-    {{2, 2, 3, 4}, 4, 1, 0, ""},
-    {{2, 2, 3, 4}, 0, 1, 0, ""},
-    {{0, 1, 3, 4}, 0, 1, 0, ""},
-    {{0, 5, 3, 4}, 4, 1, 0, ""},
-    {{0, 2, 1, 4}, 4, 1, 0, ""},
-    {{0, 2, 17, 4}, 4, 1, 0, ""},
-    {{0, 2, 3, 1}, 4, 1, 0, ""},
-    {{0, 2, 3, RANGE + 1}, 100, 1, 0, ""},
-    {{256, 2, 3, 4}, 100, 1, 0, ""},
-    {{BIT_32, 2, 3, 4}, 100, 1, 0, ""},
-    {{UINT64_MAX, UINT64_MAX, UINT64_MAX, UINT64_MAX}, 100, 1, 0, ""},
+    {ONE_RANGE(3, 2, 3, 4), 4, 1, 0, ""},
+    {ONE_RANGE(3, 2, 3, 4), 0, 1, 0, ""},
+    {ONE_RANGE(0, 1, 3, 4), 0, 1, 0, ""},
+    {ONE_RANGE(0, 5, 3, 4), 4, 1, 0, ""},
+    {ONE_RANGE(0, 2, 1, 4), 4, 1, 0, ""},
+    {ONE_RANGE(0, 2, 17, 4), 4, 1, 0, ""},
+    {ONE_RANGE(0, 2, 3, 1), 4, 1, 0, ""},
+    {ONE_RANGE(0, 2, 3, RANGE + 1), 100, 1, 0, ""},
+    {ONE_RANGE(256, 2, 3, 4), 100, 1, 0, ""},
+    {ONE_RANGE(BIT_32, 2, 3, 4), 100, 1, 0, ""},
+    {ONE_RANGE(UINT64_MAX, UINT64_MAX, UINT64_MAX, UINT64_MAX), 100, 1, 0, ""},
 };
 
 static void check_layouts(void)
 {
     for (size_t i = 0; i < sizeof layouts / sizeof layouts[0]; i++) {
         struct lent out = lend_room(layouts[i].room);
-        struct gorvlime_shape s = layouts[i].shape;
-        calling("export of layout %" PRIu64 " %" PRIu64 " %" PRIu64 " %" PRIu64 " into %zu", s.form, s.m, s.t, s.v,
-                out.count);
-        struct gorvlime_stored e = CALL(export_layout)(s, LENT(out));
+        calling("export of layout %s into %zu", told(layouts[i].shape), out.count);
+        struct gorvlime_stored e = CALL(export_layout)(layouts[i].shape, LENT(out));
         same("refusal", e.refusal, layouts[i].refusal);
         same("length", e.length, layouts[i].length);
         holds(&out, layouts[i].out);
@@ -62,38 +60,38 @@ static const struct {
     uint64_t refusal, length;
     const char *out;
 } records[] = {
-    {7, 0, {0, 2, 3, 4}, "4F", 4, 0, 4, "07 00 01 4F"},
-    {7, 0, {0, 2, 3, 4}, "4F", 9, 0, 4, "07 00 01 4F"},
-    {7, 0, {0, 2, 3, 4}, "4F", 3, 9, 0, ""},
-    {7, 0, {0, 2, 3, 4}, "4F", 0, 9, 0, ""},
-    {300, 63, {0, 2, 2, 20}, "00 40", 6, 0, 6, "AC 02 3F 02 00 40"},
-    {300, 63, {0, 2, 2, 20}, "00 40", 5, 9, 0, ""},
-    {MOST_SERIAL, 1, {1, 2, 3, 4}, "01", 12, 0, 12, "FF FF FF FF FF FF FF FF 7F 01 01 01"},
+    {7, 0, ONE_RANGE(0, 2, 3, 4), "4F", 4, 0, 4, "07 00 01 4F"},
+    {7, 0, ONE_RANGE(0, 2, 3, 4), "4F", 9, 0, 4, "07 00 01 4F"},
+    {7, 0, ONE_RANGE(0, 2, 3, 4), "4F", 3, 9, 0, ""},
+    {7, 0, ONE_RANGE(0, 2, 3, 4), "4F", 0, 9, 0, ""},
+    {300, 63, ONE_RANGE(0, 2, 2, 20), "00 40", 6, 0, 6, "AC 02 3F 02 00 40"},
+    {300, 63, ONE_RANGE(0, 2, 2, 20), "00 40", 5, 9, 0, ""},
+    {MOST_SERIAL, 1, ONE_RANGE(1, 2, 3, 4), "01", 12, 0, 12, "FF FF FF FF FF FF FF FF 7F 01 01 01"},
     /* Cells that have no reading are exported too, blank ones of form 1 among them. */
-    {9, 1, {0, 2, 2, 20}, "02 80", 5, 0, 5, "09 01 02 02 80"},
-    {8, 2, {1, 2, 3, 4}, "00", 4, 0, 4, "08 02 01 00"},
-    {0, 0, {1, 2, 3, 4}, "FF", 4, 0, 4, "00 00 01 FF"},
+    {9, 1, ONE_RANGE(0, 2, 2, 20), "02 80", 5, 0, 5, "09 01 02 02 80"},
+    {8, 2, ONE_RANGE(1, 2, 3, 4), "00", 4, 0, 4, "08 02 01 00"},
+    {0, 0, ONE_RANGE(1, 2, 3, 4), "FF", 4, 0, 4, "00 00 01 FF"},
     /* The order of the tests: 10, 1, 3, 9. */
-    {MOST_SERIAL + 1, 64, {2, 2, 3, 4}, "", 0, 10, 0, ""},
-    {UINT64_MAX, 0, {0, 2, 3, 4}, "4F", 100, 10, 0, ""},
-    {1, 64, {0, 2, 3, 4}, "", 0, 1, 0, ""},
-    {1, 64, {0, 2, 3, 4}, "4F", 100, 1, 0, ""},
-    {1, 256, {0, 2, 3, 4}, "4F", 100, 1, 0, ""},
-    {1, BIT_32, {0, 2, 3, 4}, "4F", 100, 1, 0, ""},
-    {1, UINT64_MAX, {0, 2, 3, 4}, "4F", 100, 1, 0, ""},
-    {1, 63, {2, 2, 3, 4}, "4F", 100, 1, 0, ""},
-    {1, 63, {0, 5, 3, 4}, "", 0, 1, 0, ""},
-    {1, 63, {0, 2, 3, 4}, "", 0, 3, 0, ""},
-    {1, 63, {0, 2, 3, 4}, "00 00", 100, 3, 0, ""},
-    {1, 63, {1, 2, 2, 20}, "00 01", 100, 3, 0, ""},
+    {MOST_SERIAL + 1, 64, ONE_RANGE(3, 2, 3, 4), "", 0, 10, 0, ""},
+    {UINT64_MAX, 0, ONE_RANGE(0, 2, 3, 4), "4F", 100, 10, 0, ""},
+    {1, 64, ONE_RANGE(0, 2, 3, 4), "", 0, 1, 0, ""},
+    {1, 64, ONE_RANGE(0, 2, 3, 4), "4F", 100, 1, 0, ""},
+    {1, 256, ONE_RANGE(0, 2, 3, 4), "4F", 100, 1, 0, ""},
+    {1, BIT_32, ONE_RANGE(0, 2, 3, 4), "4F", 100, 1, 0, ""},
+    {1, UINT64_MAX, ONE_RANGE(0, 2, 3, 4), "4F", 100, 1, 0, ""},
+    {1, 63, ONE_RANGE(3, 2, 3, 4), "4F", 100, 1, 0, ""},
+    {1, 63, ONE_RANGE(0, 5, 3, 4), "", 0, 1, 0, ""},
+    {1, 63, ONE_RANGE(0, 2, 3, 4), "", 0, 3, 0, ""},
+    {1, 63, ONE_RANGE(0, 2, 3, 4), "00 00", 100, 3, 0, ""},
+    {1, 63, ONE_RANGE(1, 2, 2, 20), "00 01", 100, 3, 0, ""},
 };
 
 static void check_records(void)
 {
     for (size_t i = 0; i < sizeof records / sizeof records[0]; i++) {
         struct lent cells = lend(records[i].cells), out = lend_room(records[i].room);
-        calling("export of record %" PRIu64 " layout %" PRIu64 " form %" PRIu64 " cells %s into %zu", records[i].serial,
-                records[i].layout, records[i].shape.form, records[i].cells, out.count);
+        calling("export of record %" PRIu64 " layout %" PRIu64 " %s cells %s into %zu", records[i].serial,
+                records[i].layout, told(records[i].shape), records[i].cells, out.count);
         struct gorvlime_stored e = CALL(export_record)(records[i].serial, records[i].layout, records[i].shape,
                                                         LENT(cells), LENT(out));
         same("refusal", e.refusal, records[i].refusal);
@@ -103,10 +101,10 @@ static void check_records(void)
     }
 }
 
-/* No layout and no record is longer than the header says. */
+/* No layout of one range and no record is longer than the header says. */
 static void check_longest(void)
 {
-    struct gorvlime_shape widest = {.form = 1, .m = 4, .t = 16, .v = RANGE};
+    struct gorvlime_shape widest = ONE_RANGE(1, 4, 16, RANGE);
     struct lent cells = lend_room(64), out = lend_room(100);
     calling("exports of the largest field");
     same("length of its layout", CALL(export_layout)(widest, LENT(out)).length, 12);
@@ -166,10 +164,10 @@ static void same_step(struct gorvlime_found_new got, struct gorvlime_found_new e
     same("records", got.records, expected.records);
     same("serial", got.serial, expected.serial);
     same("layout", got.layout, expected.layout);
-    same("form", got.shape.form, expected.shape.form);
-    same("m", got.shape.m, expected.shape.m);
-    same("t", got.shape.t, expected.shape.t);
-    same("v", got.shape.v, expected.shape.v);
+    same("form", got.form, expected.form);
+    same("m", got.m, expected.m);
+    same("t", got.t, expected.t);
+    same("v", got.v, expected.v);
     same("start", got.start, expected.start);
     same("length", got.length, expected.length);
     same("next", got.next, expected.next);
@@ -205,37 +203,37 @@ static const struct {
     size_t at;
     struct gorvlime_found_new found;
 } steps[] = {
-    {NEW_DUMP, 9, {0, 0, 1, 7, 0, {0, 2, 3, 4}, 12, 1, 13, 0, 3, 2, 0, 0}},
-    {NEW_DUMP, 13, {0, 0, 1, 300, 1, {0, 2, 2, 20}, 17, 2, 19, 0, 1, 1, 1, 0}},
-    {NEW_DUMP, 19, {0, 0, 1, 8, 0, {0, 2, 3, 4}, 22, 1, 23, 0, 1, 0, 3, 0}},
-    {NEW_DUMP, 23, {0, 0, 1, 9, 1, {0, 2, 2, 20}, 26, 2, 28, 16, 1, 0, 0, 0}},
+    {NEW_DUMP, 9, {0, 0, 1, 7, 0, 0, 2, 3, 4, 12, 1, 13, 0, 3, 2, 0, 0}},
+    {NEW_DUMP, 13, {0, 0, 1, 300, 1, 0, 2, 2, 20, 17, 2, 19, 0, 1, 1, 1, 0}},
+    {NEW_DUMP, 19, {0, 0, 1, 8, 0, 0, 2, 3, 4, 22, 1, 23, 0, 1, 0, 3, 0}},
+    {NEW_DUMP, 23, {0, 0, 1, 9, 1, 0, 2, 2, 20, 26, 2, 28, 16, 1, 0, 0, 0}},
     {NEW_DUMP, 28, END},
     {NEW_DUMP, 29, END},
     {NEW_DUMP, SIZE_MAX, END},
     /* Offsets inside the list: what stands there is read as a record. */
-    {NEW_DUMP, 0, {0, 0, 1, 2, 0, {0, 2, 3, 4}, 3, 2, 5, 3, 0, 0, 0, 0}},
+    {NEW_DUMP, 0, {0, 0, 1, 2, 0, 0, 2, 3, 4, 3, 2, 5, 3, 0, 0, 0, 0}},
     {NEW_DUMP, 1, STOP(1)},
-    {NEW_DUMP, 4, {0, 0, 1, 4, 0, {0, 2, 3, 4}, 7, 2, 9, 3, 0, 0, 0, 0}},
+    {NEW_DUMP, 4, {0, 0, 1, 4, 0, 0, 2, 3, 4, 7, 2, 9, 3, 0, 0, 0, 0}},
     {NEW_DUMP, 8, STOP(8)},
     {"00", 0, STOP(0)},
     {"00", 1, END},
     {"00 07 00 00", 1, STOP(1)},
     /* A record's own refusals. */
-    {NEW_4 " 07 00 01 00", 5, {0, 0, 1, 7, 0, {1, 2, 3, 4}, 8, 1, 9, 11, 0, 0, 0, 0}},
-    {NEW_4 " 07 00 01 01", 5, {0, 0, 1, 7, 0, {1, 2, 3, 4}, 8, 1, 9, 0, 1, 0, 2, 0}},
-    {UNREADABLE_DUMP, 5, {0, 0, 1, 7, 0, {1, 2, 3, 4}, 8, 1, 9, 15, 2, 0, 0, 2}},
-    {UNREADABLE_DUMP, 9, {0, 0, 1, 8, 0, {1, 2, 3, 4}, 12, 1, 13, 16, 1, 0, 0, 0}},
-    {NEW_4 " 07 00 01 FF", 5, {0, 0, 1, 7, 0, {1, 2, 3, 4}, 8, 1, 9, 15, 3, 0, 0, 0}},
-    {NEW_4 " 07 00 00", 5, {0, 0, 1, 7, 0, {1, 2, 3, 4}, 8, 0, 8, 3, 0, 0, 0, 0}},
-    {"01 01 02 02 14 07 00 02 00 01", 5, {0, 0, 1, 7, 0, {1, 2, 2, 20}, 8, 2, 10, 3, 0, 0, 0, 0}},
-    {"01 02 02 03 04 07 00 01 4F", 5, {0, 0, 1, 7, 0, {2, 2, 3, 4}, 8, 1, 9, 1, 0, 0, 0, 0}},
-    {"01 00 05 03 04 07 00 01 4F", 5, {0, 0, 1, 7, 0, {0, 5, 3, 4}, 8, 1, 9, 1, 0, 0, 0, 0}},
-    {"01 00 02 11 04 07 00 00", 5, {0, 0, 1, 7, 0, {0, 2, 17, 4}, 8, 0, 8, 1, 0, 0, 0, 0}},
-    {"01 00 02 03 01 07 00 00", 5, {0, 0, 1, 7, 0, {0, 2, 3, 1}, 8, 0, 8, 1, 0, 0, 0, 0}},
+    {NEW_4 " 07 00 01 00", 5, {0, 0, 1, 7, 0, 1, 2, 3, 4, 8, 1, 9, 11, 0, 0, 0, 0}},
+    {NEW_4 " 07 00 01 01", 5, {0, 0, 1, 7, 0, 1, 2, 3, 4, 8, 1, 9, 0, 1, 0, 2, 0}},
+    {UNREADABLE_DUMP, 5, {0, 0, 1, 7, 0, 1, 2, 3, 4, 8, 1, 9, 15, 2, 0, 0, 2}},
+    {UNREADABLE_DUMP, 9, {0, 0, 1, 8, 0, 1, 2, 3, 4, 12, 1, 13, 16, 1, 0, 0, 0}},
+    {NEW_4 " 07 00 01 FF", 5, {0, 0, 1, 7, 0, 1, 2, 3, 4, 8, 1, 9, 15, 3, 0, 0, 0}},
+    {NEW_4 " 07 00 00", 5, {0, 0, 1, 7, 0, 1, 2, 3, 4, 8, 0, 8, 3, 0, 0, 0, 0}},
+    {"01 01 02 02 14 07 00 02 00 01", 5, {0, 0, 1, 7, 0, 1, 2, 2, 20, 8, 2, 10, 3, 0, 0, 0, 0}},
+    {"01 03 02 03 04 07 00 01 4F", 5, {0, 0, 1, 7, 0, 3, 2, 3, 4, 8, 1, 9, 1, 0, 0, 0, 0}},
+    {"01 00 05 03 04 07 00 01 4F", 5, {0, 0, 1, 7, 0, 0, 5, 3, 4, 8, 1, 9, 1, 0, 0, 0, 0}},
+    {"01 00 02 11 04 07 00 00", 5, {0, 0, 1, 7, 0, 0, 2, 17, 4, 8, 0, 8, 1, 0, 0, 0, 0}},
+    {"01 00 02 03 01 07 00 00", 5, {0, 0, 1, 7, 0, 0, 2, 3, 1, 8, 0, 8, 1, 0, 0, 0, 0}},
     /* A layout that is out of bounds says nothing of the others. */
-    {"02 09 00 00 00 00 02 03 04 07 01 01 4F", 9, {0, 0, 1, 7, 1, {0, 2, 3, 4}, 12, 1, 13, 0, 3, 2, 0, 0}},
+    {"02 09 00 00 00 00 02 03 04 07 01 01 4F", 9, {0, 0, 1, 7, 1, 0, 2, 3, 4, 12, 1, 13, 0, 3, 2, 0, 0}},
     /* Equal layouts, each by its number. */
-    {"02 00 02 03 04 00 02 03 04 07 01 01 4F", 9, {0, 0, 1, 7, 1, {0, 2, 3, 4}, 12, 1, 13, 0, 3, 2, 0, 0}},
+    {"02 00 02 03 04 00 02 03 04 07 01 01 4F", 9, {0, 0, 1, 7, 1, 0, 2, 3, 4, 12, 1, 13, 0, 3, 2, 0, 0}},
     /* A layout number out of the list, and some that are in it if only their low bits count. */
     {OLD_4 " 07 00 01 4F 08 01 01 4F", 9, STOP(9)},
     {OLD_4 " 08 01 01 4F", 5, STOP(5)},
@@ -248,7 +246,7 @@ static const struct {
     {OLD_4 " 08 80 00 01 4F", 5, STOP(5)},
     {OLD_4 " 08 00 81 00 4F", 5, STOP(5)},
     {OLD_4 " FF FF FF FF FF FF FF FF FF 01 00 01 4F", 5, STOP(5)},
-    {OLD_4 " FF FF FF FF FF FF FF FF 7F 00 01 4F", 5, {0, 0, 1, MOST_SERIAL, 0, {0, 2, 3, 4}, 16, 1, 17, 0, 3, 2, 0, 0}},
+    {OLD_4 " FF FF FF FF FF FF FF FF 7F 00 01 4F", 5, {0, 0, 1, MOST_SERIAL, 0, 0, 2, 3, 4, 16, 1, 17, 0, 3, 2, 0, 0}},
     {OLD_4 " 08", 5, STOP(5)},
     {OLD_4 " 08 00", 5, STOP(5)},
     {OLD_4 " 08 00 01", 5, STOP(5)},

@@ -2,7 +2,6 @@
 #include "chosen.h"
 #include "check.h"
 
-#include <inttypes.h>
 #include <string.h>
 
 /* A field of at most 16 wits, and its counts. */
@@ -46,16 +45,16 @@ static struct gorvlime_reading check_reading(const struct field *f, struct count
     same("refused with another but 16", r.refusal != 0 && r.refusal != 15 && r.refusal != 16, 0);
     same("generation", r.generation, generation);
     same("unerased", r.unerased, is_miscounted ? c.unerased : 0);
-    same("number in range", r.number < f->shape.v, 1);
+    same("number in range", r.number < range_at(&f->shape, generation), 1);
     same("number and left of a refused one", r.refusal != 0 ? r.number + r.left : 0, 0);
     return r;
 }
 
-/* A write is refused as the read is, and turns no wit. */
+/* A write is refused as the read is, and turns no wit; in form 2, which tests 6 last, whatever the number. */
 static void check_refused_write(const struct field *f, const struct gorvlime_reading *r, const struct lent *cells)
 {
     struct lent lent = *cells;
-    struct gorvlime_writing w = CALL(write)(f->shape, LENT(lent), 0);
+    struct gorvlime_writing w = CALL(write)(f->shape, LENT(lent), f->shape.form == 2 ? UINT64_MAX : 0);
     same("refusal of the write", w.refusal, r->refusal);
     same("its generation", w.generation, r->generation);
     same("its unerased", w.unerased, r->unerased);
@@ -63,24 +62,14 @@ static void check_refused_write(const struct field *f, const struct gorvlime_rea
     same("lent bytes that were changed", memcmp(lent.all, cells->all, sizeof lent.all) != 0, 0);
 }
 
-static struct lent lend_wits(const struct field *f, unsigned wits)
-{
-    uint64_t count = f->shape.m * f->counts.h[0];
-    struct lent cells = lend_room((count + 7) / 8);
-    wits <<= 8 * cells.count - count;
-    for (size_t i = cells.count; i-- > 0; wits >>= 8)
-        cells.all[MARGIN + i] = wits;
-    return cells;
-}
-
-/* But for blank cells, which have a number in form 0 and are refused with 11 in form 1. */
+/* But for blank cells, which have a number in form 0 and are refused with 11 in forms 1 and 2. */
 static void check_field(const struct field *f)
 {
     unsigned refused[17] = {0};
-    for (unsigned wits = 1; wits < 1u << f->shape.m * f->counts.h[0]; wits++) {
-        struct lent cells = lend_wits(f, wits);
-        calling("form %" PRIu64 " m %" PRIu64 " t %" PRIu64 " v %" PRIu64 " wits %x", f->shape.form, f->shape.m, f->shape.t,
-                f->shape.v, wits);
+    size_t count = f->shape.m * f->counts.h[0];
+    for (unsigned wits = 1; wits < 1u << count; wits++) {
+        struct lent cells = lend_wits(count, wits);
+        calling("%s wits %x", told(f->shape), wits);
         struct gorvlime_reading r = check_reading(f, count_groups(f, wits), &cells);
         if (r.refusal == 15 || r.refusal == 16) {
             check_refused_write(f, &r, &cells);
@@ -94,7 +83,10 @@ static void check_field(const struct field *f)
 void check_unreadable(void)
 {
     static const struct gorvlime_shape shapes[] = {
-        {0, 2, 3, 4}, {1, 2, 3, 4}, {0, 2, 2, 20}, {1, 2, 2, 20}, {0, 2, 5, 2}, {0, 3, 2, 48}, {1, 4, 3, 14},
+        ONE_RANGE(0, 2, 3, 4), ONE_RANGE(1, 2, 3, 4), ONE_RANGE(0, 2, 2, 20), ONE_RANGE(1, 2, 2, 20),
+        ONE_RANGE(0, 2, 5, 2), ONE_RANGE(0, 3, 2, 48), ONE_RANGE(1, 4, 3, 14),
+        RANGES(2, 3, 20, 4, 2), RANGES(2, 3, 2, 4, 20), RANGES(2, 4, 2, 20, 2, 2), RANGES(3, 2, 300, 2),
+        RANGES(4, 3, 2, 28, 2),
     };
     for (unsigned i = 0; i < sizeof shapes / sizeof shapes[0]; i++) {
         struct field f = {.shape = shapes[i], .counts = CALL(layout)(shapes[i], 256)};

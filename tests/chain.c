@@ -1,11 +1,10 @@
 #include "chain.h"
 
 #include "chosen.h"
-#include "check.h"
 
 #include <inttypes.h>
 
-static struct lent lend_blank(struct gorvlime_shape shape)
+struct lent lend_blank(struct gorvlime_shape shape)
 {
     struct lent cells = lend_room((shape.m * CALL(layout)(shape, 256).h[0] + 7) / 8);
     for (size_t i = 0; i < cells.count; i++)
@@ -21,12 +20,11 @@ static unsigned ones_in(const struct lent *cells)
     return ones;
 }
 
-/* Of form 0 the number is 0 and all writes are left; of form 1 there is none. */
+/* Of form 0 the number is 0 and all writes are left; of the others there is none. */
 static void check_blank(struct gorvlime_shape shape, const struct lent *cells)
 {
     int is_number = shape.form == 0;
-    calling("read blank cells of form %" PRIu64 " m %" PRIu64 " t %" PRIu64 " v %" PRIu64, shape.form, shape.m, shape.t,
-            shape.v);
+    calling("read blank cells of %s", told(shape));
     struct gorvlime_reading r = CALL(read)(shape, LENT(*cells));
     same("refusal", r.refusal, is_number ? 0 : 11);
     same("generation", r.generation, is_number ? 1 : 0);
@@ -35,14 +33,14 @@ static void check_blank(struct gorvlime_shape shape, const struct lent *cells)
     same("unerased", r.unerased, 0);
 }
 
-void check_chain(struct gorvlime_shape shape, uint64_t number)
+void check_numbers(struct gorvlime_shape shape, const uint64_t *numbers)
 {
     struct lent cells = lend_blank(shape);
-    uint64_t turned = 0;
+    uint64_t turned = 0, number = 0;
     check_blank(shape, &cells);
     for (uint64_t i = 1; i <= shape.t; i++) {
-        calling("write %" PRIu64 " of form %" PRIu64 " m %" PRIu64 " t %" PRIu64 " v %" PRIu64 " number %" PRIu64, i,
-                shape.form, shape.m, shape.t, shape.v, number);
+        number = numbers[i - 1];
+        calling("write %" PRIu64 " of %s number %" PRIu64, i, told(shape), number);
         struct gorvlime_writing w = CALL(write)(shape, LENT(cells), number);
         struct gorvlime_reading r = CALL(read)(shape, LENT(cells));
         turned += w.turned;
@@ -59,4 +57,12 @@ void check_chain(struct gorvlime_shape shape, uint64_t number)
     struct gorvlime_writing more = CALL(write)(shape, LENT(cells), number);
     same("refusal of one more", more.refusal, 5);
     same("its other numbers", more.generation + more.turned + more.unerased, 0);
+}
+
+void check_chain(struct gorvlime_shape shape, uint64_t number)
+{
+    uint64_t numbers[16];
+    for (unsigned i = 0; i < 16; i++)
+        numbers[i] = number;
+    check_numbers(shape, numbers);
 }

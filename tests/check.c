@@ -7,7 +7,7 @@
 #include <string.h>
 
 static unsigned checks, failures;
-static char call[256];
+static char call[1024];
 
 void calling(const char *format, ...)
 {
@@ -15,6 +15,20 @@ void calling(const char *format, ...)
     va_start(words, format);
     vsnprintf(call, sizeof call, format, words);
     va_end(words);
+}
+
+const char *told(struct gorvlime_shape s)
+{
+    static char words[512];
+    int length = snprintf(words, sizeof words, "form %" PRIu64 " m %" PRIu64 " t %" PRIu64 " v", s.form, s.m, s.t);
+    for (uint64_t i = 0; i < s.count && i < 16; i++)
+        length += snprintf(words + length, sizeof words - length, " %" PRIu64, s.v[i]);
+    return words;
+}
+
+uint64_t range_at(const struct gorvlime_shape *shape, uint64_t generation)
+{
+    return shape->v[shape->form == 2 ? generation - 1 : 0];
 }
 
 void same(const char *what, uint64_t got, uint64_t expected)
@@ -52,6 +66,15 @@ struct lent lend(const char *hex)
         hex++;
     }
     return lent;
+}
+
+struct lent lend_wits(size_t count, uint32_t wits)
+{
+    struct lent cells = lend_room((count + 7) / 8);
+    uint64_t bits = (uint64_t)wits << (8 * cells.count - count);
+    for (size_t i = cells.count; i-- > 0; bits >>= 8)
+        cells.all[MARGIN + i] = bits;
+    return cells;
 }
 
 void holds(const struct lent *lent, const char *hex)

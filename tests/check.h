@@ -2,6 +2,8 @@
 #ifndef CHECK_H
 #define CHECK_H
 
+#include "gorvlime.h"
+
 #include <stddef.h>
 #include <stdint.h>
 
@@ -18,6 +20,12 @@ struct lent {
 /* Names the call that the checks after it are about, as printf does. */
 void calling(const char *format, ...) __attribute__((format(printf, 1, 2)));
 
+/* A shape for `calling`, in words that last until the next one is told. */
+const char *told(struct gorvlime_shape shape);
+
+/* The range of a generation, from 1. */
+uint64_t range_at(const struct gorvlime_shape *shape, uint64_t generation);
+
 void same(const char *what, uint64_t got, uint64_t expected);
 
 /* Bytes as hex digits, with spaces for the eye. */
@@ -26,6 +34,9 @@ struct lent lend(const char *hex);
 /* `count` bytes that are UNTOUCHED themselves. */
 struct lent lend_room(size_t count);
 
+/* The least bytes that hold so many wits, at most 32: the lowest bit is the last wit, those behind it are 0. */
+struct lent lend_wits(size_t count, uint32_t wits);
+
 /* The lent bytes are these now, the ones behind them up to the lent count are UNTOUCHED, and so are the margins. */
 void holds(const struct lent *lent, const char *hex);
 
@@ -33,6 +44,12 @@ void holds(const struct lent *lent, const char *hex);
 int done(unsigned due);
 
 void check_forms(void);
+
+void check_ranges(void);
+
+void check_range_chains(void);
+
+void check_listed_ranges(void);
 
 void check_unreadable(void);
 
