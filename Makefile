@@ -19,7 +19,7 @@ test:
 	@tests/run-triangle
 	@tests/run-calls
 	@tests/run-hex
-	@tools/frames target/staticlib/libgorvlime.a --limit 1700 --limit gorvlime_layout=496 --limit gorvlime_move_to_new=2400 --limit gorvlime_write_many=2000
+	@tools/frames target/staticlib/libgorvlime.a --limit 2200 --limit gorvlime_layout=496 --limit gorvlime_move_to_new=2400
 	@tests/crosscheck $(CALLS)
 	@rt ci
 

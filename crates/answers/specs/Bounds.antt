@@ -5,9 +5,9 @@ use lib.ListN.{length}
 use Rattle.answers.specs.declared.input.Window.{Window}
 use Rattle.answers.specs.declared.protocol.Call.{Call}
 
--- the most bytes of a call: an operation, a shape's four numbers, a count and 128 numbers, a count and 65,537 bytes
+-- the most bytes of a call: an operation, a shape's four numbers and 64 ranges, a count and 128 numbers, a count and 65,537 bytes
 abbrev pub callMost : ℕ
-callMost = 66610
+callMost = 67122
 
 -- the most bytes of an output that a call asks for
 abbrev pub outputMost : ℕ
@@ -36,3 +36,5 @@ pub record Within (c : Call) (bytes : List ℕ) : Type 0 where
   pub limited : c .room ≤ outputMost
   pub few : c .listed ≤ 128
   pub listed : c .from + 8 * c .listed ≤ length bytes
+  pub shaped : c .shape ≤ 2
+  pub ranged : c .ranged + 8 * c .ranges ≤ length bytes

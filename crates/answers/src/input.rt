@@ -13,7 +13,7 @@ pub struct Window {
 }
 
 // The most bytes of a call: an operation, four numbers, a count and 128 numbers more, a count and 65,537 bytes.
-const CALL_MOST: usize = 66610;
+const CALL_MOST: usize = 67122;
 
 // Reads on where what is left might not be a whole call.
 pub fn refill(buffer: &mut [u8], w: Window) -> Window

@@ -194,35 +194,64 @@ fn put_records(
     place
 }
 
-// The shape in a row.
-fn shape_in(kind: Kind, row: &[u64]) -> Shape
-    requires { ⌜ 11 ≤ length (now row) ⌝ }
-{
-    match kind {
-        Kind::Old => Shape {
-            form: 0,
-            m: row[1],
-            t: row[2],
-            v: row[3],
-        },
-        Kind::New => Shape {
-            form: row[2],
-            m: row[3],
-            t: row[4],
-            v: row[5],
-        },
+// The shape of a record of an old dump.
+fn own_shape(m: u64, t: u64, range: u64) -> Shape {
+    let mut v = [0u64; 16];
+    v[0] = range;
+    Shape {
+        form: 0,
+        m,
+        t,
+        count: 1,
+        v,
     }
 }
 
-// The line of a row, with the reply to reading the record's part of the dump, which is what the row goes on with.
+// The shape of the record in a row.
+fn shape_in(dump: &[u8], kind: Kind, row: &[u64]) -> Shape
+    requires { ⌜ 11 ≤ length (now row) ⌝ }
+{
+    match kind {
+        Kind::Old => own_shape(row[1], row[2], row[3]),
+        Kind::New => {
+            let listed = gorvlime::listed_shape(dump, row[1]);
+            listed.shape
+        }
+    }
+}
+
+// The first so many ranges, none where there are not so many.
+fn put_ranges(out: &mut [u8], at: usize, ranges: &[u64], count: u64) -> usize
+    requires { ⌜ Fits at (now out) ⌝ }
+    ensures { λ r. ⌜ Fits r (now (out .exit)) ⌝ }
+{
+    if (ranges.len() as u64) < count {
+        return at;
+    }
+    output::put_numbers(out, at, b"", &ranges[0..count as usize])
+}
+
+// The start and the count of a record's cells, and the reply to reading them.
+fn put_cells(out: &mut [u8], at: usize, dump: &[u8], s: Shape, place: &[u64]) -> usize
+    requires { ⌜ Fits at (now out) × (2 ≤ length (now place)) ⌝ }
+    ensures { λ r. ⌜ Fits r (now (out .exit)) ⌝ }
+{
+    let placed = output::put_numbers(out, at, b"", place);
+    let cells = gorvlime::part(dump, place[0] as usize, place[1] as usize);
+    put_reply(out, placed, gorvlime::read(s, cells))
+}
+
+// The line of a row, its layout with all its ranges. The first range and the place of the cells stand before the reply that the row goes on with.
 fn put_record(out: &mut [u8], at: usize, dump: &[u8], kind: Kind, row: &[u64]) -> usize
     requires { ⌜ Fits at (now out) × (11 ≤ length (now row)) ⌝ }
     ensures { λ r. ⌜ Fits r (now (out .exit)) ⌝ }
 {
-    let numbers = row.len() - REPLY;
-    let place = output::put_numbers(out, at, b"record", &row[0..numbers]);
-    let cells = gorvlime::part(dump, row[numbers - 2] as usize, row[numbers - 1] as usize);
-    put_reply(out, place, gorvlime::read(shape_in(kind, row), cells))
+    let first = row.len() - REPLY - 3;
+    let s = shape_in(dump, kind, row);
+    let v = s.v;
+    let named = output::put_numbers(out, at, b"record", &row[0..first]);
+    let ranged = put_ranges(out, named, &v, s.count);
+    put_cells(out, ranged, dump, s, &row[first + 1..first + 3])
 }
 
 fn put_stop(out: &mut [u8], at: usize, refusal: u64, offset: u64) -> usize

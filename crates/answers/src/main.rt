@@ -1,25 +1,25 @@
 // Answers the stream of calls on standard input, a line for each on standard output. A call is a byte that says which it is and its numbers, each as eight
 // bytes from the low one up; cells or a dump follow as one number more, which counts them, and the bytes themselves:
 //
-//     1 layout   form m t v g                   layout 0 h_1 .. h_t | layout N
-//     2 read     form m t v, cells              read 0 generation number left | read N, where N may be 15 generation unerased or
+//     1 layout   SHAPE g                        layout 0 h_1 .. h_t | layout N
+//     2 read     SHAPE, cells                   read 0 generation number left | read N, where N may be 15 generation unerased or
 //                                               16 generation, here and wherever a reading or a write is refused
-//     3 write    form m t v number, cells       write 0 generation turned CELLS | write N CELLS
+//     3 write    SHAPE number, cells            write 0 generation turned CELLS | write N CELLS
 //     4 export   serial m t v outlen, cells     export 0 length OUT | export N OUT
 //     5 walk     dump                           record serial m t v start length 0 generation number left, or
 //                                               record serial m t v start length N, for each; end | stop 7 offset | stop 8
 //     6 HEX out  outlen, bytes                  hex 0 length OUT | hex N OUT
 //     7 HEX in   outlen, text                   unhex 0 length OUT | unhex N OUT
-//     8 walk of a new dump                      record serial layout form m t v start length .. for each; end | stop 7 offset | stop 8
+//     8 walk of a new dump                      record serial layout form m t v_1 .. start length .. for each; end | stop 7 offset | stop 8
 //     9 move to new                             outlen, dump: new 0 length OUT | new 7 offset OUT | new N OUT
 //    10 move to old                             outlen, dump: old 0 length OUT | old 7 offset OUT | old N OUT
-//    11 layout of a new dump                    form m t v outlen: listed 0 length OUT | listed N OUT
-//    12 record of a new dump                    serial layout form m t v outlen, cells: export 0 length OUT | export N OUT
-//    13 write many                              form m t v n x_1 .. x_n, cells: many 0 n g_1 turned_1 .. CELLS | many N CELLS |
+//    11 layout of a new dump                    SHAPE outlen: listed 0 length OUT | listed N OUT
+//    12 record of a new dump                    serial layout SHAPE outlen, cells: export 0 length OUT | export N OUT
+//    13 write many                              SHAPE n x_1 .. x_n, cells: many 0 n g_1 turned_1 .. CELLS | many N CELLS |
 //                                               many N field j g_1 turned_1 .. CELLS, of the j fields before the refused one
 //
-// CELLS and OUT are the lent bytes afterwards in hex, left out where there are none. A stream that can't be followed ends with `cut off`, `no such call` or
-// `too long`.
+// SHAPE is form m t k v_1 .. v_k, where k counts the ranges. CELLS and OUT are the lent bytes afterwards in hex, left out where there are none. A stream
+// that can't be followed ends with `cut off`, `no such call` or `too long`.
 mod input;
 mod lines;
 mod moved;
@@ -122,14 +122,13 @@ fn answer(
     ensures { λ r. ⌜ Fits r (now (out .exit)) ⌝ }
 {
     let operation = call.operation;
-    let n = call.numbers;
     let start = call.start;
     let end = call.end;
-    let s = protocol::shape_from(call, 0);
+    let s = protocol::shape_of(bytes, call);
     match operation {
-        Operation::Layout => lines::put_layout(out, at, s, n[4]),
+        Operation::Layout => lines::put_layout(out, at, s, call.behind),
         Operation::Read => lines::put_read(out, at, s, &bytes[start..end]),
-        Operation::Write => lines::put_write(out, at, s, n[4], &mut bytes[start..end]),
+        Operation::Write => lines::put_write(out, at, s, call.behind, &mut bytes[start..end]),
         Operation::WriteMany => {
             let mut numbers = [0u64; protocol::LISTED_MOST];
             let listed = protocol::read_list(bytes, call, &mut numbers);
@@ -138,7 +137,7 @@ fn answer(
         Operation::Walk => lines::put_walk(out, at, &bytes[start..end], rows),
         Operation::WalkNew => lines::put_walk_new(out, at, &bytes[start..end], rows),
         Operation::Store(which) => {
-            stored::put_stored(out, at, call, which, &bytes[start..end], lent)
+            stored::put_stored(out, at, call, s, which, &bytes[start..end], lent)
         }
         Operation::Broken(why) => lines::put_broken(out, at, why),
     }

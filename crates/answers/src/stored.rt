@@ -1,7 +1,6 @@
 // The lines of the calls that are lent an output: the length or the refusal, and the output afterwards.
 use crate::moved;
 use crate::output;
-use crate::protocol;
 use crate::protocol::Call;
 use crate::protocol::Stored;
 use code::Shape;
@@ -90,6 +89,7 @@ pub fn put_stored(
     out: &mut [u8],
     at: usize,
     call: Call,
+    s: Shape,
     which: Stored,
     bytes: &[u8],
     lent: &mut [u8],
@@ -106,10 +106,7 @@ pub fn put_stored(
         Stored::HexImport => put_hex_import(out, at, bytes, part),
         Stored::MoveToNew => moved::put_to_new(out, at, bytes, part),
         Stored::MoveToOld => moved::put_to_old(out, at, bytes, part),
-        Stored::ExportLayout => put_listed(out, at, protocol::shape_from(call, 0), part),
-        Stored::ExportRecord => {
-            let s = protocol::shape_from(call, 2);
-            put_record_export(out, at, n[0], n[1], s, bytes, part)
-        }
+        Stored::ExportLayout => put_listed(out, at, s, part),
+        Stored::ExportRecord => put_record_export(out, at, n[0], n[1], s, bytes, part),
     }
 }

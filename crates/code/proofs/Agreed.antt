@@ -9,8 +9,8 @@ use Rattle.code.specs.Cells.{place, wit, value, listed, sum, group, grou
 use Rattle.code.specs.Field.{zeros, unerased, past, base, fewest, carriers, told, pattern, judged, read, erase, cleared, lay, after, writeAt, writeOn, write}
 use Rattle.code.specs.Run.{kept}
 use Rattle.code.specs.declared.Shape.{Shape}
-use Rattle.code.specs.Shape.{shaped, firstOf, rangesOf, orderOf, outside, granted, misfit, countsOf, widthOf}
-use Rattle.code.specs.Calls.{readCells, storing, writeCells, refusal, answer, leaves, layoutRefusal, layoutReply, fieldRead, fieldWrite, unsound, numberless, miscounts, exceeds, countTold, spent, generation, holds, left, readRefusal, readReply, writeRefusal, madeAt, writeReply, writeLeaves}
+use Rattle.code.specs.Shape.{single, shaped, firstOf, rangesDue, given, rangesOf, allRanges, orderOf, outside, granted, misfit, countsOf, widthOf}
+use Rattle.code.specs.Calls.{readCells, storing, writeCells, refusal, answer, leaves, layoutRefusal, layoutReply, fieldRead, fieldWrite, unsound, numberless, miscounts, exceeds, countTold, spent, taker, overRange, overTaker, generation, holds, left, readRefusal, readReply, writeRefusal, madeAt, writeReply, writeLeaves}
 
 -- a write's reply and the cells that it leaves
 abbrev Written : Shape → ℕ → List ℕ → List ℕ → List ℕ → Type 0
@@ -31,5 +31,5 @@ pub worked :
     × Written (shaped 2 2 20) 16 (0x00 ∷ 0x00 ∷ []) (0 ∷ 1 ∷ 2 ∷ []) (0x01 ∷ 0x40 ∷ [])
     × Written (shaped 2 2 20) 0 (0x00 ∷ 0x40 ∷ []) (0 ∷ 2 ∷ 4 ∷ []) (0xC1 ∷ 0xC0 ∷ [])
     × (rank (0 ∷ 1 ∷ 0 ∷ 1 ∷ 1 ∷ 0 ∷ 0 ∷ []) ≡ 15)
-unfolding choose fewer least room counts grant written rank digits number laid places deal plain plainly place wit value listed sum group groups sound witOf byteOf stored ones turned zeros unerased past base fewest carriers told pattern judged read erase cleared lay after writeAt writeOn write kept readCells storing writeCells refusal answer leaves firstOf rangesOf orderOf outside granted misfit countsOf widthOf layoutRefusal layoutReply fieldRead fieldWrite unsound numberless miscounts exceeds countTold spent generation holds left readRefusal readReply writeRefusal madeAt writeReply writeLeaves
+unfolding choose fewer least room counts grant written rank digits number laid places deal plain plainly place wit value listed sum group groups sound witOf byteOf stored ones turned zeros unerased past base fewest carriers told pattern judged read erase cleared lay after writeAt writeOn write kept readCells storing writeCells refusal answer leaves firstOf rangesDue given rangesOf allRanges orderOf outside granted misfit countsOf widthOf layoutRefusal layoutReply fieldRead fieldWrite unsound numberless miscounts exceeds countTold spent taker overRange overTaker generation holds left readRefusal readReply writeRefusal madeAt writeReply writeLeaves
 worked = (refl, refl, refl, refl, (refl, refl), (refl, refl), (refl, refl), (refl, refl), refl, refl, refl, (refl, refl), (refl, refl), refl)

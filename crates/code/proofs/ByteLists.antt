@@ -6,6 +6,7 @@ use mathlib.Core.List.{List, [], _∷_, _++_}
 use native.Mathlib.Omega.{arith}
 use lib.ListN.{length, getD, take, drop, length-append, length-drop, take-append-drop, List·getD-append}
 use lib.Seq.{getD-append-add, getD-drop}
+use Rattle.code.specs.Lists.{Below}
 use Rattle.code.specs.Numerals.{sevens, numeralsOf}
 use Rattle.code.proofs.Tests.{le-or-lt}
 use Rattle.code.proofs.Wits.{Bytes}
@@ -48,3 +49,7 @@ pub numerals-bytes : (xs : List ℕ) → Bytes (numeralsOf xs)
 unfolding numeralsOf
 numerals-bytes [] = bytes-none
 numerals-bytes (x ∷ xs) = bytes-append (sevens 9 x) (numeralsOf xs) (sevens-bytes 9 x) (numerals-bytes xs)
+
+pub below-append : (b : ℕ) (xs ys : List ℕ) → Below b xs → Below b ys → Below b (xs ++ ys)
+below-append b [] ys u w = w
+below-append b (x ∷ xs) ys u w = (u .0, below-append b xs ys (u .1) w)

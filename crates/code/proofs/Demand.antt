@@ -5,7 +5,7 @@ use mathlib.Core.Logic.{inl, inr}
 use mathlib.Core.Bool.{true, false, true≢false}
 use mathlib.Core.List.{List, [], _∷_}
 use native.Mathlib.Omega.{arith}
-use native.Mathlib.Nat.{le-refl, sub-zero}
+use native.Mathlib.Nat.{le-refl, zero-add, sub-zero}
 use lib.ListN.{length, getD, take, replicate, length-replicate}
 use lib.Dec.{leb}
 use borrow.Author.Tests.{ltb-false, lt-ltb, le-ltb, ne-eqb}
@@ -24,7 +24,7 @@ use Rattle.code.proofs.Wits.{Bytes}
 use Rattle.code.proofs.Cells.{groups-length, sound-told, stored-opened, stored-sound, upto-all, none-at, blank-stored, turned-ones}
 use Rattle.code.proofs.Field.{read-blank, blank-read}
 use Rattle.code.proofs.Grant.{grant-meets, grant-least, grant-refused}
-use Rattle.code.proofs.Run.{equal-range, blank-written, run-same, total-same}
+use Rattle.code.proofs.Run.{InRange, equal-range, listed-range, blank-written, run-same, total-same}
 use Rattle.code.proofs.Bytes.{accepted-is, triedCells, turns, tried-is, turned-blank, accepts-is}
 use Rattle.code.proofs.LayoutCall.{first-new, outside-within, within-outside, layout-none, ranges-length, counts-length, bounded, is-layout}
 use Rattle.code.proofs.ReadCall.{read-none, read-as, eleven-told}
@@ -96,23 +96,41 @@ module _ (s : Shape) (ok : layoutRefusal s 256 ≡ []) where
       ∙ turned-blank (orderOf s) (s .m) (firstOf s) hs vs (is-layout s ok) some xs
       ∙ ap (ones (orderOf s)) (sym (run-same (writeLeaves s) (ruled s) (leaves-is s ok) (blankCells s) xs))
 
-  -- From blank cells and for any sequence of numbers in range, the j-th write is accepted exactly when j less the zeros that open the sequence is at most t.
-  pub accepted-exactly : (xs : List ℕ) (j : ℕ) → Below (s .v) xs → j < length xs →
+  -- From blank cells and for any sequence of numbers in range, each below the range of the generation that would take it if any would, the j-th write is
+  -- accepted exactly when j less the zeros that open the sequence is at most t.
+  pub accepted-ranged : (xs : List ℕ) (j : ℕ) → InRange (firstOf s) (rangesOf s) 0 xs → j < length xs →
       passes (writeRefusal s (getD xs j 0) (run (writeLeaves s) (blankCells s) (take j xs))) ≡ leb (suc j - opening (firstOf s) xs) (s .t)
-  unfolding fieldWrite widthOf rangesOf
-  accepted-exactly xs j b l =
+  unfolding fieldWrite widthOf
+  accepted-ranged xs j r l =
       let hs = countsOf s in
       let vs = rangesOf s in
       refused-not s ok (getD xs j 0) (run (writeLeaves s) (blankCells s) (take j xs))
       ∙ rw (run-same (writeLeaves s) (ruled s) (leaves-is s ok) (blankCells s) (take j xs))
-      (rw (counts-length s ok) at
-      (accepts-is (orderOf s) (s .m) (firstOf s) hs vs (is-layout s ok) some xs j (equal-range (firstOf s) (s .t) (s .v) 0 xs b) l))
+      (rw (counts-length s ok) at (accepts-is (orderOf s) (s .m) (firstOf s) hs vs (is-layout s ok) some xs j r l))
+
+  -- of the forms that have one v: every number is below it
+  pub accepted-exactly : (s .form ≡ 2 → ⊥) → (xs : List ℕ) (j : ℕ) → Below (getD (s .v) 0 0) xs → j < length xs →
+      passes (writeRefusal s (getD xs j 0) (run (writeLeaves s) (blankCells s) (take j xs))) ≡ leb (suc j - opening (firstOf s) xs) (s .t)
+  unfolding rangesOf
+  accepted-exactly one xs j b l =
+      let r : InRange (firstOf s) (rangesOf s) 0 xs = rw (ne-eqb (s .form) 2 one) (equal-range (firstOf s) (s .t) (getD (s .v) 0 0) 0 xs b) in
+      accepted-ranged xs j r l
 
   -- 02, §2, of a new drive: "the j-th write is accepted exactly when j ≤ t"
-  pub accepted-new : s .form ≡ 1 → (xs : List ℕ) (j : ℕ) → Below (s .v) xs → j < length xs →
+  pub accepted-new : s .form ≡ 1 → (xs : List ℕ) (j : ℕ) → Below (getD (s .v) 0 0) xs → j < length xs →
       passes (writeRefusal s (getD xs j 0) (run (writeLeaves s) (blankCells s) (take j xs))) ≡ leb (suc j) (s .t)
   unfolding opening
-  accepted-new new xs j b l = accepted-exactly xs j b l ∙ rw (first-new s new, sub-zero)
+  accepted-new new xs j b l = accepted-exactly (λ two. omega arith) xs j b l ∙ rw (first-new s (omega arith), sub-zero)
+
+  -- 02, §7, of a range for each generation: "below the range of the generation that would take it, or none would"; "exactly when j ≤ t, as in form 1"
+  pub accepted-listed : s .form ≡ 2 → (xs : List ℕ) (j : ℕ) → ((k : ℕ) → k < length xs → k < s .t → getD xs k 0 < getD (rangesOf s) k 0) → j < length xs →
+      passes (writeRefusal s (getD xs j 0) (run (writeLeaves s) (blankCells s) (take j xs))) ≡ leb (suc j) (s .t)
+  unfolding opening
+  accepted-listed two xs j f l =
+      let one = first-new s (omega arith) in
+      let n = ranges-length s (bounded s ok) in
+      let r = listed-range (rangesOf s) 0 xs (omega arith) (λ k h g. rw (zero-add k) (f k h (omega (arith, n)))) in
+      accepted-ranged xs j (rw one r) l ∙ rw (one, sub-zero)
 
   blank-sound : (sound (orderOf s) (s .m) (widthOf s) (blankCells s) ≡ true) × (opened (orderOf s) (s .m) (widthOf s) (blankCells s) ≡ replicate (widthOf s) 0)
   blank-sound =
@@ -122,16 +140,16 @@ module _ (s : Shape) (ok : layoutRefusal s 256 ≡ []) where
       let back = rw l at (stored-opened (orderOf s) (s .m) (replicate h 0) some (upto-all (2 ^ s .m - 1) (replicate h 0) (λ i u. omega (arith, none-at h i)))) in
       rw (← blank-stored (orderOf s) (s .m) h some) (right, back)
 
-  -- 02, §2: "reading blank form 1 cells gives 11", and no other cells
-  pub blank-refused : s .form ≡ 1 → readReply s (blankCells s) ≡ 11 ∷ []
+  -- 02, §2: "reading blank form 1 cells gives 11", in form 2 too, and no other cells
+  pub blank-refused : 0 < s .form → readReply s (blankCells s) ≡ 11 ∷ []
   unfolding numberless fieldRead readCells widthOf
   blank-refused new =
       let groups = opened (orderOf s) (s .m) (widthOf s) (blankCells s) in
       let none : written groups ≡ 0 = rw (blank-sound .1) (blank-written (widthOf s)) in
       let r : fieldRead s (blankCells s) ≡ blank = read-blank (2 ^ s .m - 1) (firstOf s) (countsOf s) (rangesOf s) groups none in
-      read-none s (blankCells s) ok (blank-sound .0) (rw (r, new))
+      read-none s (blankCells s) ok (blank-sound .0) (rw (r, ne-eqb (s .form) 0 (λ z. omega arith)))
 
-  pub refused-blank : (bs : List ℕ) → Bytes bs → readReply s bs ≡ 11 ∷ [] → (s .form ≡ 1) × (bs ≡ blankCells s)
+  pub refused-blank : (bs : List ℕ) → Bytes bs → readReply s bs ≡ 11 ∷ [] → (0 < s .form) × (bs ≡ blankCells s)
   unfolding fieldRead readCells widthOf
   refused-blank bs B e =
       let n = eleven-told s bs ok e in
@@ -140,7 +158,7 @@ module _ (s : Shape) (ok : layoutRefusal s 256 ≡ []) where
       let none = blank-read (2 ^ s .m - 1) (firstOf s) (countsOf s) (rangesOf s) groups (n .2) in
       let zero : groups ≡ replicate h 0 = rw (groups-length (s .m) h (wit (orderOf s) bs)) at (none-written groups none) in
       let told = sound-told (orderOf s) (s .m) h bs (n .1) B some in
-      (omega (arith, n .0, bounded s ok .form-high), sym told ∙ ap (stored (orderOf s) (s .m)) zero ∙ blank-stored (orderOf s) (s .m) h some)
+      (omega (arith, n .0), sym told ∙ ap (stored (orderOf s) (s .m)) zero ∙ blank-stored (orderOf s) (s .m) h some)
 
 -- Demand 3, first half: the granted list meets a to d within g and is count for count at most every list that meets them.
 pub layout-granted : (s : Shape) (g : ℕ) → layoutRefusal s g ≡ [] →
@@ -150,7 +168,7 @@ unfolding granted misfit
 layout-granted s g ok =
     let n = layout-none s g ok in
     let vs = rangesOf s in
-    let t2 : 2 ≤ length vs = omega (arith, outside-within s g (n .0) .bounds .t-low, ranges-length s) in
+    let t2 : 2 ≤ length vs = omega (arith, outside-within s g (n .0) .bounds .t-low, ranges-length s (outside-within s g (n .0) .bounds)) in
     let f : getD (grant g (s .m) (firstOf s) vs) 0 0 ≤ g = ltb-false g (getD (grant g (s .m) (firstOf s) vs) 0 0) (n .1) in
     (grant-meets g (s .m) (firstOf s) vs t2 f, f, λ hs y. grant-least g (s .m) (firstOf s) hs vs t2 y .0)
 
@@ -161,7 +179,7 @@ pub layout-refused : (s : Shape) (g : ℕ) → outside s g ≡ false →
 unfolding layoutRefusal refusal granted misfit
 layout-refused s g w =
     let vs = rangesOf s in
-    let t2 : 2 ≤ length vs = omega (arith, outside-within s g w .bounds .t-low, ranges-length s) in
+    let t2 : 2 ≤ length vs = omega (arith, outside-within s g w .bounds .t-low, ranges-length s (outside-within s g w .bounds)) in
     elim (le-or-lt (getD (grant g (s .m) (firstOf s) vs) 0 0) g) [
       | inl f ↦
           rw (w, le-ltb g (getD (grant g (s .m) (firstOf s) vs) 0 0) f)
@@ -188,7 +206,8 @@ granted-anywhere s g ok =
   where
     least-of : (hs : List ℕ) → Meets (s .m) (firstOf s) hs (rangesOf s) → Rises (granted s 256) hs × (getD (granted s 256) 0 0 ≤ getD hs 0 0)
     least-of hs y = unfold granted in
-        grant-least 256 (s .m) (firstOf s) hs (rangesOf s) (omega (arith, outside-within s g (layout-none s g ok .0) .bounds .t-low, ranges-length s)) y
+        let b = outside-within s g (layout-none s g ok .0) .bounds in
+        grant-least 256 (s .m) (firstOf s) hs (rangesOf s) (omega (arith, b .t-low, ranges-length s b)) y
 
     open-refusal : outside s 256 ≡ false → getD (granted s 256) 0 0 ≤ 256 → layoutRefusal s 256 ≡ []
     open-refusal o f = unfold layoutRefusal in unfold refusal in unfold misfit in rw (o, le-ltb 256 (getD (granted s 256) 0 0) f)

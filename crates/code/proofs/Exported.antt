@@ -4,18 +4,19 @@ use mathlib.Core.Path.{_≡_, refl, sym, ap, _∙_}
 use mathlib.Core.Bool.{Bool, true, false, cond}
 use mathlib.Core.List.{List, [], _∷_, _++_, map}
 use native.Mathlib.Omega.{arith}
-use lib.Dec.{ltb}
+use lib.Dec.{ltb, eqb}
 use lib.ListN.{length, getD, take, length-map}
-use borrow.Author.Tests.{ltb-false}
+use borrow.Author.Tests.{ltb-false, le-leb}
 use Rattle.code.specs.declared.Kind.the-variants.{New}
 use Rattle.code.specs.declared.Shape.{Shape}
-use Rattle.code.specs.Shape.{shaped, outside, misfit, countsOf, Bounds}
-use Rattle.code.specs.Calls.{unsound}
-use Rattle.code.specs.LayoutList.{Listed, listedNumbers, unlisted, listedShape, listedOf, layoutsOf}
+use Rattle.code.specs.Lists.{Below}
+use Rattle.code.specs.Shape.{shaped, given, outside, misfit, countsOf, Bounds}
+use Rattle.code.specs.Calls.{filled, unsound}
+use Rattle.code.specs.LayoutList.{Listed, listedNumbers, unlisted, listedShape, listedOf, layoutsOf, uncounted}
 use Rattle.code.specs.Dump.{recordOf, Exporting, oldExport, newExport, exportRefusal, exportReply, exportLeaves, Source, ownLayouts, listedLayouts, walk}
 use Rattle.code.specs.NewDump.{Entry, entryHead, recordsOf, layoutExportRefusal, layoutExportReply, layoutExportLeaves}
-use Rattle.code.proofs.Tests.{clash}
-use Rattle.code.proofs.LayoutCall.{outside-within, passed}
+use Rattle.code.proofs.Tests.{clash, and-false}
+use Rattle.code.proofs.LayoutCall.{given-length, given-at, outside-within, passed}
 use Rattle.code.proofs.Stores.{tests-refuse, reply-told, accepted, stored-made}
 use Rattle.code.proofs.Parsed.{Listing, Sound, AllSound}
 use Rattle.code.proofs.LayoutLists.{Listable, AllListable, layouts-append, count-byte}
@@ -66,6 +67,20 @@ module _ (x : Exporting) (cells out : List ℕ) where
       stored-made made (exportReply x cells out) (exportLeaves x cells out) out
       (accepted (exportRefusal x cells out) made out (export-none e) (export-told e .fits))
 
+below-each : (b : ℕ) (xs : List ℕ) → ((i : ℕ) → i < length xs → getD xs i 0 < b) → Below b xs
+below-each b [] h = tt
+below-each b (x ∷ xs) h = (h 0 (omega arith), below-each b xs (λ i l. h (suc i) (omega arith)))
+
+-- within the bounds each range can be written
+pub ranges-below : (s : Shape) → Bounds s → Below (2 ^ 63) (given s)
+ranges-below s b = below-each (2 ^ 63) (given s) (λ i l.
+    let c : i < s .count = omega (arith, given-length s) in omega (arith, given-at s i c, b .v-high i c))
+
+-- within the bounds t can be told to count the ranges
+bounded-counted : (s : Shape) → Bounds s → (vs : List ℕ) → uncounted (s .form ∷ s .m ∷ s .t ∷ vs) ≡ false
+unfolding uncounted
+bounded-counted s b vs = rw (le-leb 2 (s .t) (b .t-low), le-leb (s .t) 16 (b .t-high)) (and-false (eqb (s .form) 2))
+
 -- The same of the export of a layout.
 module _ (s : Shape) (out : List ℕ) where
   layout-none : getD (layoutExportReply s out) 0 0 ≡ 0 → layoutExportRefusal s out ≡ []
@@ -95,11 +110,15 @@ module _ (s : Shape) (out : List ℕ) where
   unfolding listedNumbers listedOf
   exported-listable e =
       let b = layout-told e .0 in
-      record { small = (omega (arith, b .form-high), (omega (arith, b .m-high), (omega (arith, b .t-high), (omega (arith, b .v-high), tt)))); single = refl }
+      record {
+        small = (omega (arith, b .form-high), (omega (arith, b .m-high), (omega (arith, b .t-high), ranges-below s b)));
+        counted = bounded-counted s b (given s);
+        due = given-length s ∙ b .due;
+      }
 
 -- the export of an entry
 abbrev pub exportOf : Source → Entry → Exporting
-exportOf ownLayouts e = oldExport (e .serial) (e .shape .m) (e .shape .t) (e .shape .v)
+exportOf ownLayouts e = oldExport (e .serial) (e .shape .m) (e .shape .t) (getD (e .shape .v) 0 0)
 exportOf (listedLayouts ls) e = newExport (e .serial) (e .layout) (e .shape)
 
 pub export-head : (source : Source) (e : Entry) → exportOf source e .head ≡ entryHead source e
@@ -111,7 +130,7 @@ pub export-sound : (source : Source) (e : Entry) (out : List ℕ) → Exports (e
 unfolding entryHead
 export-sound ownLayouts e out x l =
     let b = x .bounds in
-    record { small = (x .early, (omega (arith, b .m-high), (omega (arith, b .t-high), (omega (arith, b .v-high), tt)))); listing = l }
+    record { small = (x .early, (omega (arith, b .m-high), (omega (arith, b .t-high), (omega (arith, b .v-high 0 (omega arith)), tt)))); listing = l }
 export-sound (listedLayouts ls) e out x l = record { small = (x .early, (omega (arith, ltb-false 63 (e .layout) (x .listed)), tt)); listing = l }
 
 -- exports one after the other, each with its output: all are accepted, of layouts that the dump can say
@@ -149,13 +168,17 @@ pub exports-walk : (source : Source) (calls : Calls) → Sayable source → AllE
 exports-walk source calls s h =
     rw (exported-records source calls h) (dump-parsed source (exportedOf calls) s (exported-sound source calls h))
 
+-- what stands behind the ranges of a shape is 0
+abbrev pub Tidy : Shape → Type 0
+Tidy s = listedShape (listedOf s) ≡ s
+
 -- exports of layouts, each with its output
 abbrev pub LayoutCalls : Type 0
 LayoutCalls = List (Shape × List ℕ)
 
 abbrev pub AllLayouts : LayoutCalls → Type 0
 AllLayouts [] = Unit {0}
-AllLayouts (c ∷ cs) = (getD (layoutExportReply (c .0) (c .1)) 0 0 ≡ 0) × AllLayouts cs
+AllLayouts (c ∷ cs) = (getD (layoutExportReply (c .0) (c .1)) 0 0 ≡ 0) × Tidy (c .0) × AllLayouts cs
 
 abbrev pub shapesOf : LayoutCalls → List Shape
 shapesOf calls = map (λ (c : Shape × List ℕ). c .0) calls
@@ -169,17 +192,17 @@ exported-layouts : (calls : LayoutCalls) → AllLayouts calls →
 unfolding layoutsOf
 exported-layouts [] h = (tt, refl)
 exported-layouts (c ∷ cs) h =
-    let ih = exported-layouts cs (h .1) in
+    let ih = exported-layouts cs (h .2) in
     let l = listedOf (c .0) in (
       (exported-listable (c .0) (c .1) (h .0), ih .0),
       rw (stored-layout (c .0) (c .1) (h .0), ih .1) (sym (layouts-append (l ∷ []) (map listedOf (shapesOf cs)))),
     )
 
-shape-at : (ss : List Shape) (i : ℕ) → listedShape (getD (map listedOf ss) i unlisted) ≡ getD ss i (shaped 0 0 0)
-unfolding listedShape listedOf
-shape-at [] i = refl
-shape-at (s ∷ ss) zero = refl
-shape-at (s ∷ ss) (suc i) = shape-at ss i
+shape-at : (calls : LayoutCalls) (i : ℕ) → AllLayouts calls → listedShape (getD (map listedOf (shapesOf calls)) i unlisted) ≡ getD (shapesOf calls) i (shaped 0 0 0)
+unfolding listedShape filled
+shape-at [] i h = refl
+shape-at (c ∷ cs) zero h = h .1
+shape-at (c ∷ cs) (suc i) h = shape-at cs i (h .2)
 
 -- A new dump of exports: a count byte, so many exported layouts, and behind them records that were exported with the shape of the layout of their number.
 module _ (layoutCalls : LayoutCalls) where
@@ -198,9 +221,9 @@ module _ (layoutCalls : LayoutCalls) where
   long : length exportedList ≡ length layoutCalls
   long = length-map (shapesOf layoutCalls) listedOf ∙ length-map layoutCalls (λ (c : Shape × List ℕ). c .0)
 
-  all-exported : (cs : Calls) → AllNumbered cs → AllExported (listedLayouts exportedList) cs
-  all-exported [] h = tt
-  all-exported (c ∷ cs) h = (h .0, (omega (arith, long, h .1), h .2 ∙ sym (shape-at (shapesOf layoutCalls) (c .0 .layout))), all-exported cs (h .3))
+  all-exported : AllLayouts layoutCalls → (cs : Calls) → AllNumbered cs → AllExported (listedLayouts exportedList) cs
+  all-exported ls [] h = tt
+  all-exported ls (c ∷ cs) h = (h .0, (omega (arith, long, h .1), h .2 ∙ sym (shape-at layoutCalls (c .0 .layout) ls)), all-exported ls cs (h .3))
 
   module _ (calls : Calls) (few : length layoutCalls ≤ 64) (ls : AllLayouts layoutCalls) (h : AllNumbered calls) (short : length (exportedDump calls) ≤ 65536) where
     -- it opens with the layouts and walks to the records: each with its serial, number, shape and cells
@@ -210,7 +233,7 @@ module _ (layoutCalls : LayoutCalls) where
         let l = exported-layouts layoutCalls ls in
         let few′ : length exportedList ≤ 64 = omega (arith, long) in
         let front : fronted source (storedRecords source calls) ≡ exportedDump calls = rw (count-byte (length exportedList) few′, long, l .1) in
-        rw front at (exports-walk source calls (l .0, few′) (all-exported calls h) (rw front short))
+        rw front at (exports-walk source calls (l .0, few′) (all-exported ls calls h) (rw front short))
 
     -- so reading a record's cells gives what reading the exported cells gives
     pub new-exports-told : toldOf (exportedDump calls) (walk New (exportedDump calls)) ≡ toldBy (exportedOf calls)

@@ -9,14 +9,16 @@ use lib.Dec.{eqb}
 use lib.ListN.{length, getD, length-append}
 use borrow.Author.Tests.{lt-ltb, le-ltb, eq-eqb, eqb-true}
 use Rattle.code.specs.Lists.{Below, same}
-use Rattle.code.specs.LayoutList.{Listed, listedNumbers, listedBy, unlisted, listedShape, listedOf}
+use Rattle.code.specs.Cells.{listed}
+use Rattle.code.specs.Shape.{shaped, rangesDue, given}
+use Rattle.code.specs.LayoutList.{Listed, listedNumbers, listedBy, unlisted, listedShape, listedOf, uncounted}
 use Rattle.code.specs.Dump.{ownLayouts, listedLayouts}
 use Rattle.code.specs.NewDump.{Entry, entryHead, recordsOf, placeOf, joined, firstUse, numbered, foreign}
 use Rattle.code.proofs.Tests.{le-or-lt, clash}
 use Rattle.code.proofs.HexLines.{same-eq}
 use Rattle.code.proofs.Records.{below-at}
 use Rattle.code.proofs.Parsed.{Sound, AllSound}
-use Rattle.code.proofs.LayoutLists.{Listable, AllListable, listable-at, listed-back}
+use Rattle.code.proofs.LayoutLists.{Listable, AllListable, listable-at, listed-back, single-shape, single-back}
 
 -- layouts are the same by their numbers
 same-self : (xs : List ℕ) → same xs xs ≡ true
@@ -135,9 +137,17 @@ first-lists [] ls = tt
 first-lists (e ∷ es) ls = let l = listedOf (e .shape) in (first-keeps es (joined ls l) l (joined-lists ls l), first-lists es (joined ls l))
 
 -- Old records have layouts of form 0 with one range, and so has a list of these.
+pub own-listed : (e : Entry) → Sound ownLayouts e →
+    listedOf (e .shape) ≡ record { form = 0; m = e .shape .m; t = e .shape .t; ranges = getD (e .shape .v) 0 0 ∷ [] }
+unfolding listedOf given listed
+own-listed e s = ap listedOf (s .listing .1)
+
 own-listable : (e : Entry) → Sound ownLayouts e → Listable (listedOf (e .shape))
-unfolding entryHead listedOf listedNumbers
-own-listable e s = record { small = (omega (arith, s .listing .1), s .small .1); single = refl }
+unfolding entryHead listedNumbers uncounted rangesDue
+own-listable e s = rw (own-listed e s) record { small = (omega arith, s .small .1); counted = refl; due = refl }
+
+own-shape : (e : Entry) → Sound ownLayouts e → listedShape (listedOf (e .shape)) ≡ e .shape
+own-shape e s = rw (s .listing .1) (single-back 0 (e .shape .m) (e .shape .t) (getD (e .shape .v) 0 0))
 
 listable-append : (ls : List Listed) (l : Listed) → AllListable ls → Listable l → AllListable (ls ++ (l ∷ []))
 listable-append [] l h s = (s, tt)
@@ -178,30 +188,33 @@ unfolding firstUse listedOf
 first-plain [] ls s h = h
 first-plain (e ∷ es) ls s h =
     let l = listedOf (e .shape) in
-    first-plain es (joined ls l) (s .1) (joined-by (λ ks. foreign ks ≡ false) ls l (λ g. h) (λ g. plain-append ls l h (s .0 .listing .1)))
+    first-plain es (joined ls l) (s .1) (joined-by (λ ks. foreign ks ≡ false) ls l (λ g. h) (λ g. plain-append ls l h (ap (λ k. k .form) (own-listed e (s .0)))))
 
 -- Numbered by a list that has their layouts, old records are sound for a new dump.
-listed-shape : (ls : List Listed) (e : Entry) → Lists ls (listedOf (e .shape)) → e .shape ≡ listedShape (getD ls (placeOf ls (listedOf (e .shape))) unlisted)
-unfolding listedShape listedOf
-listed-shape ls e h = sym (ap listedShape (place-found ls (listedOf (e .shape)) h))
+listed-shape : (ls : List Listed) (e : Entry) → Sound ownLayouts e → Lists ls (listedOf (e .shape)) →
+    e .shape ≡ listedShape (getD ls (placeOf ls (listedOf (e .shape))) unlisted)
+listed-shape ls e s h = sym (ap listedShape (place-found ls (listedOf (e .shape)) h) ∙ own-shape e s)
 
 pub numbered-sound : (es : List Entry) (ls : List Listed) → length ls ≤ 64 → AllSound ownLayouts es → AllListed ls es →
     AllSound (listedLayouts ls) (numbered ls es)
 unfolding numbered entryHead
 numbered-sound [] ls few s h = tt
 numbered-sound (e ∷ es) ls few s h =
-    (record { small = (s .0 .small .0, (omega (arith, h .0), tt)); listing = (h .0, listed-shape ls e (h .0)) }, numbered-sound es ls few (s .1) (h .1))
+    (record { small = (s .0 .small .0, (omega (arith, h .0), tt)); listing = (h .0, listed-shape ls e (s .0) (h .0)) }, numbered-sound es ls few (s .1) (h .1))
 
 -- New records without their numbers are sound for an old dump, if their list has no other form.
 listed-old : (ls : List Listed) (e : Entry) → AllListable ls → foreign ls ≡ false → Sound (listedLayouts ls) e →
-    Below (2 ^ 63) (e .shape .m ∷ e .shape .t ∷ e .shape .v ∷ []) × (e .shape .form ≡ 0)
-unfolding listedShape listedNumbers
+    let s = e .shape in Below (2 ^ 63) (s .m ∷ s .t ∷ getD (s .v) 0 0 ∷ []) × (s ≡ shaped (s .m) (s .t) (getD (s .v) 0 0))
+unfolding listedNumbers rangesDue
 listed-old ls e h f s =
     let k : Listed = getD ls (e .layout) unlisted in
     let a = listable-at ls (e .layout) h (s .listing .0) in
     let x = a .small .1 in
-    let v : getD (k .ranges) 0 0 < 2 ^ 63 = below-at (2 ^ 63) (k .ranges) 0 (x .1 .1) (omega (arith, a .single)) in
-    rw (s .listing .1) ((x .0, (x .1 .0, (v, tt))), plain-at ls (e .layout) f)
+    let old : k .form ≡ 0 = plain-at ls (e .layout) f in
+    let one : length (k .ranges) ≡ 1 = a .due ∙ rw old in
+    let v : getD (k .ranges) 0 0 < 2 ^ 63 = below-at (2 ^ 63) (k .ranges) 0 (x .1 .1) (omega arith) in
+    let own : listedShape k ≡ shaped (k .m) (k .t) (getD (k .ranges) 0 0) = single-shape k one ∙ rw old in
+    rw (s .listing .1 ∙ own) ((x .0, (x .1 .0, (v, tt))), refl)
 
 pub unnumbered-sound : (es : List Entry) (ls : List Listed) → AllListable ls → foreign ls ≡ false → AllSound (listedLayouts ls) es →
     AllSound ownLayouts (numbered [] es)

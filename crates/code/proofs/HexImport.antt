@@ -18,7 +18,8 @@ use Rattle.code.specs.Hex.{displaced, lineRefusal, isEnd, Import, faulty
 use Rattle.code.proofs.Tests.{both-true, clash}
 use Rattle.code.specs.HexLine.{Shaped}
 use Rattle.code.proofs.HexLines.{line-passed, next-length, data-length, passed-few}
-use Rattle.code.proofs.HexText.{below-append, line-next, line-data, line-accepted, line-open}
+use Rattle.code.proofs.ByteLists.{below-append}
+use Rattle.code.proofs.HexText.{line-next, line-data, line-accepted, line-open}
 
 -- the next line, with any fuel
 module _ (fuel : ℕ) (done text : List ℕ) where

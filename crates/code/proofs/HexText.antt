@@ -14,6 +14,7 @@ use Rattle.code.specs.Dump.{ascii}
 use Rattle.code.specs.Hex.{hexDigit, hexDigits, sumByte, hexLine, dataLine, dataLines, lineCount, endRecord, hexText}
 use Rattle.code.specs.Hex.{digitNumber, spelledByte, spelledBytes, lineBytes, dataCount, dataAddress, lineType, lineData, lineEnd, behindBytes}
 use Rattle.code.specs.Hex.{nextLine, allSpelled, misshapen, wrongSum, lineRefusal, isEnd}
+use Rattle.code.proofs.ByteLists.{below-append}
 use Rattle.code.proofs.Tests.{le-or-lt}
 use Rattle.code.proofs.HexLines.{is-false, end-type, shaped-is, line-passes, not-laden, not-displaced}
 
@@ -52,10 +53,6 @@ pub sum-append : (xs ys : List ℕ) → listSum (xs ++ ys) ≡ listSum xs + list
 unfolding listSum
 sum-append [] ys = omega arith
 sum-append (x ∷ xs) ys = omega (arith, sum-append xs ys)
-
-pub below-append : (b : ℕ) (xs ys : List ℕ) → Below b xs → Below b ys → Below b (xs ++ ys)
-below-append b [] ys u w = w
-below-append b (x ∷ xs) ys u w = (u .0, below-append b xs ys (u .1) w)
 
 -- a line of bytes whose first is five less than their count
 module _ (n : ℕ) (more rest : List ℕ) (u : Below 256 (n ∷ more)) (e : length more ≡ 4 + n) where

@@ -4,47 +4,85 @@ use mathlib.Core.Path.{_≡_, refl, sym, ap, _∙_}
 use mathlib.Core.Bool.{Bool, true, false, cond, _&&_}
 use mathlib.Core.List.{List, [], _∷_, _++_}
 use native.Mathlib.Omega.{arith}
-use native.Mathlib.Nat.{sub-zero, suc-sub-suc}
+use native.Mathlib.Decide.{ℕ-discrete}
+use native.Mathlib.Nat.{zero-add, sub-zero, suc-sub-suc}
 use lib.ListN.{length, getD, take, replicate, length-take, length-append, length-replicate, getD-replicate}
-use lib.Seq.{take-at}
+use lib.Seq.{take-at, getD-take, ext-getD}
 use lib.Dec.{leb, eqb}
-use borrow.Author.Tests.{le-leb, lt-ltb, le-ltb, ltb-false, leb-true, not-false}
+use borrow.Author.Tests.{le-leb, lt-ltb, le-ltb, ltb-false, leb-true, eq-eqb, ne-eqb, eqb-true, not-false}
 use Rattle.code.specs.declared.Shape.{Shape}
-use Rattle.code.specs.Shape.{firstOf, rangesOf, outside, Bounds, granted, misfit, countsOf, widthOf}
+use Rattle.code.specs.Shape.{firstOf, rangesDue, given, rangesOf, allRanges, outside, Bounds, granted, misfit, countsOf, widthOf}
 use Rattle.code.specs.Calls.{filled, readFields, layoutFields, refusal, answer, layoutRefusal, layoutReply}
 use Rattle.code.proofs.Tests.{both-true, clash}
+use Rattle.code.proofs.Numbers.{listed-length, listed-at}
+use Rattle.code.proofs.Cells.{upto-all}
 use Rattle.code.proofs.Conditions.{Layout}
-use Rattle.code.specs.Lists.{Upto}
 use Rattle.code.proofs.Grant.{grant-length, grant-fits}
 use Rattle.code.proofs.CountSteps.{steps-few}
 
--- m, t, v and g within their bounds
+-- the shape and g within their bounds
 pub record Within (s : Shape) (g : ℕ) : Type 0 where
   pub bounds : Bounds s
   pub g-high : g ≤ 256
+
+-- every range within its bounds, one by one
+all-told : (vs : List ℕ) → allRanges vs ≡ true → (i : ℕ) → i < length vs → (2 ≤ getD vs i 0) × (getD vs i 0 ≤ 2 ^ 56)
+unfolding allRanges
+all-told [] h i l = absurd (omega arith)
+all-told (v ∷ vs) h zero l =
+    let a = both-true (leb 2 v) (leb v (2 ^ 56)) (both-true (leb 2 v && leb v (2 ^ 56)) (allRanges vs) h .0) in
+    (leb-true 2 v (a .0), leb-true v (2 ^ 56) (a .1))
+all-told (v ∷ vs) h (suc i) l = all-told vs (both-true (leb 2 v && leb v (2 ^ 56)) (allRanges vs) h .1) i (omega arith)
+
+all-there : (vs : List ℕ) → ((i : ℕ) → i < length vs → (2 ≤ getD vs i 0) × (getD vs i 0 ≤ 2 ^ 56)) → allRanges vs ≡ true
+unfolding allRanges
+all-there [] h = refl
+all-there (v ∷ vs) h =
+    let a = h 0 (omega arith) in
+    rw (le-leb 2 v (a .0), le-leb v (2 ^ 56) (a .1)) (all-there vs (λ i l. h (suc i) (omega arith)))
+
+-- the ranges given are as many as their count, and each is that of its place
+pub given-length : (s : Shape) → length (given s) ≡ s .count
+unfolding given
+given-length s = listed-length (λ i. getD (s .v) i 0) 0 (s .count)
+
+pub given-at : (s : Shape) (i : ℕ) → i < s .count → getD (given s) i 0 ≡ getD (s .v) i 0
+unfolding given
+given-at s i l = rw (zero-add i) at (listed-at (λ i. getD (s .v) i 0) 0 (s .count) i l)
+
+pub given-taken : (s : Shape) → s .count ≤ length (s .v) → given s ≡ take (s .count) (s .v)
+given-taken s h =
+    let n = given-length s in
+    ext-getD 0 (given s) (take (s .count) (s .v)) (omega (arith, n, length-take (s .count) (s .v)))
+    (λ i l. given-at s i (omega arith) ∙ sym (getD-take (s .count) (s .v) i 0 (omega arith)))
 
 pub outside-within : (s : Shape) (g : ℕ) → outside s g ≡ false → Within s g
 unfolding outside
 outside-within s g h =
     let m = s .m in
     let t = s .t in
-    let v = s .v in
-    let f0 = leb (s .form) 1 in
-    let a = both-true (f0 && (leb 2 m && leb m 4) && (leb 2 t && leb t 16) && (leb 2 v && leb v (2 ^ 56))) (leb g 256) (not-false _ h) in
-    let b = both-true (f0 && (leb 2 m && leb m 4) && (leb 2 t && leb t 16)) (leb 2 v && leb v (2 ^ 56)) (a .0) in
-    let c = both-true (f0 && (leb 2 m && leb m 4)) (leb 2 t && leb t 16) (b .0) in
+    let n = rangesDue (s .form) t in
+    let f0 = leb (s .form) 2 in
+    let all = allRanges (given s) in
+    let mt = f0 && (leb 2 m && leb m 4) && (leb 2 t && leb t 16) in
+    let a = both-true (mt && eqb (s .count) n && all) (leb g 256) (not-false _ h) in
+    let b = both-true (mt && eqb (s .count) n) all (a .0) in
+    let b′ = both-true mt (eqb (s .count) n) (b .0) in
+    let c = both-true (f0 && (leb 2 m && leb m 4)) (leb 2 t && leb t 16) (b′ .0) in
     let k = both-true f0 (leb 2 m && leb m 4) (c .0) in
     let d = both-true (leb 2 m) (leb m 4) (k .1) in
     let e = both-true (leb 2 t) (leb t 16) (c .1) in
-    let f = both-true (leb 2 v) (leb v (2 ^ 56)) (b .1) in
+    let told : (i : ℕ) → i < s .count → (2 ≤ getD (given s) i 0) × (getD (given s) i 0 ≤ 2 ^ 56) =
+    λ i l. all-told (given s) (b .1) i (omega (arith, given-length s)) in
     let bounds : Bounds s = record {
-      form-high = leb-true (s .form) 1 (k .0);
+      form-high = leb-true (s .form) 2 (k .0);
       m-low = leb-true 2 m (d .0);
       m-high = leb-true m 4 (d .1);
       t-low = leb-true 2 t (e .0);
       t-high = leb-true t 16 (e .1);
-      v-low = leb-true 2 v (f .0);
-      v-high = leb-true v (2 ^ 56) (f .1);
+      due = eqb-true (s .count) n (b′ .1);
+      v-low = λ i l. rw (given-at s i l) at (told i l .0);
+      v-high = λ i l. rw (given-at s i l) at (told i l .1);
     } in
     record { bounds = bounds; g-high = leb-true g 256 (a .1) }
 
@@ -52,8 +90,10 @@ pub within-outside : (s : Shape) (g : ℕ) → Within s g → outside s g ≡ fa
 unfolding outside
 within-outside s g w =
     let b = w .bounds in
-    rw (le-leb (s .form) 1 (b .form-high), le-leb 2 (s .m) (b .m-low), le-leb (s .m) 4 (b .m-high), le-leb 2 (s .t) (b .t-low), le-leb (s .t) 16 (b .t-high))
-    (rw (le-leb 2 (s .v) (b .v-low), le-leb (s .v) (2 ^ 56) (b .v-high), le-leb g 256 (w .g-high)))
+    let fits : (i : ℕ) → i < length (given s) → (2 ≤ getD (given s) i 0) × (getD (given s) i 0 ≤ 2 ^ 56) =
+    λ i l. let c : i < s .count = omega (arith, given-length s) in rw (given-at s i c) (b .v-low i c, b .v-high i c) in
+    rw (le-leb (s .form) 2 (b .form-high), le-leb 2 (s .m) (b .m-low), le-leb (s .m) 4 (b .m-high), le-leb 2 (s .t) (b .t-low), le-leb (s .t) 16 (b .t-high))
+    (rw (eq-eqb (s .count) (rangesDue (s .form) (s .t)) (b .due), all-there (given s) fits, le-leb g 256 (w .g-high)))
 
 -- a test that is passed, and those after it
 pub passed : (k : ℕ) (carried : List ℕ) (b : Bool) (tests : List (List ℕ × Bool)) → refusal ((k ∷ carried, b) ∷ tests) ≡ [] → (b ≡ false) × (refusal tests ≡ [])
@@ -96,17 +136,41 @@ layout-none s g ok =
     let a = passed 1 [] (outside s g) ((2 ∷ [], misfit g (granted s g)) ∷ []) ok in
     (a .0, passed 2 [] (misfit g (granted s g)) [] (a .1) .0)
 
-pub ranges-length : (s : Shape) → length (rangesOf s) ≡ s .t
-unfolding rangesOf
-ranges-length s = length-replicate (s .t) (s .v)
+-- The ranges of the generations: in form 2 those given, as many as there are generations, and else t times the one.
+module _ (s : Shape) (b : Bounds s) where
+  pub listed-due : s .form ≡ 2 → s .count ≡ s .t
+  unfolding rangesDue
+  listed-due two = b .due ∙ rw two
 
-pub range-at : (s : Shape) (n : ℕ) → n < s .t → getD (rangesOf s) n 0 ≡ s .v
-unfolding rangesOf
-range-at s n l = getD-replicate (s .t) n (s .v) 0 l
+  pub single-due : (s .form ≡ 2 → ⊥) → s .count ≡ 1
+  unfolding rangesDue
+  single-due not-two = b .due ∙ rw (ne-eqb (s .form) 2 not-two)
 
-pub granted-length : (s : Shape) (g : ℕ) → length (granted s g) ≡ s .t
+  pub ranges-length : length (rangesOf s) ≡ s .t
+  unfolding rangesOf
+  ranges-length = elim (ℕ-discrete (s .form) 2) [
+    | yes two ↦ rw (eq-eqb (s .form) 2 two) (given-length s ∙ listed-due two)
+    | no not-two ↦ rw (ne-eqb (s .form) 2 not-two) (length-replicate (s .t) (getD (s .v) 0 0))
+  ]
+
+  pub range-listed : s .form ≡ 2 → (n : ℕ) → n < s .t → getD (rangesOf s) n 0 ≡ getD (s .v) n 0
+  unfolding rangesOf
+  range-listed two n l = rw (eq-eqb (s .form) 2 two) (given-at s n (omega (arith, listed-due two)))
+
+  pub range-single : (s .form ≡ 2 → ⊥) → (n : ℕ) → n < s .t → getD (rangesOf s) n 0 ≡ getD (s .v) 0 0
+  unfolding rangesOf
+  range-single not-two n l = rw (ne-eqb (s .form) 2 not-two) (getD-replicate (s .t) n (getD (s .v) 0 0) 0 l)
+
+  -- every generation's range is within the bounds
+  pub range-within : (n : ℕ) → n < s .t → (2 ≤ getD (rangesOf s) n 0) × (getD (rangesOf s) n 0 ≤ 2 ^ 56)
+  range-within n l = elim (ℕ-discrete (s .form) 2) [
+    | yes two ↦ let c : n < s .count = omega (arith, listed-due two) in rw (range-listed two n l) (b .v-low n c, b .v-high n c)
+    | no not-two ↦ let c : 0 < s .count = omega (arith, single-due not-two) in rw (range-single not-two n l) (b .v-low 0 c, b .v-high 0 c)
+  ]
+
+pub granted-length : (s : Shape) (g : ℕ) → Bounds s → length (granted s g) ≡ s .t
 unfolding granted
-granted-length s g = grant-length g (s .m) _ (rangesOf s) ∙ ranges-length s
+granted-length s g b = grant-length g (s .m) _ (rangesOf s) ∙ ranges-length s b
 
 pub first-form : (s : Shape) → firstOf s ≤ 1
 unfolding firstOf
@@ -125,9 +189,9 @@ first-old s h = go (eqb (s .form) 0) h
     go true e = refl
     go false e = absurd (omega arith)
 
-pub first-new : (s : Shape) → s .form ≡ 1 → firstOf s ≡ 1
+pub first-new : (s : Shape) → 0 < s .form → firstOf s ≡ 1
 unfolding firstOf
-first-new s h = rw h
+first-new s h = rw (ne-eqb (s .form) 0 (λ z. omega arith))
 
 -- what a layout is that is granted to read, write and export
 module _ (s : Shape) (ok : layoutRefusal s 256 ≡ []) where
@@ -136,7 +200,7 @@ module _ (s : Shape) (ok : layoutRefusal s 256 ≡ []) where
 
   pub counts-length : length (countsOf s) ≡ s .t
   unfolding countsOf
-  counts-length = granted-length s 256
+  counts-length = granted-length s 256 bounded
 
   pub fits : widthOf s ≤ 256
   unfolding misfit widthOf countsOf
@@ -144,19 +208,18 @@ module _ (s : Shape) (ok : layoutRefusal s 256 ≡ []) where
 
   pub is-layout : Layout (2 ^ s .m - 1) (firstOf s) (countsOf s) (rangesOf s)
   unfolding countsOf granted widthOf
-  is-layout = grant-fits 256 (s .m) (firstOf s) (rangesOf s) (omega (arith, bounded .t-low, ranges-length s)) fits (bounded .m-low) (first-form s)
+  is-layout = grant-fits 256 (s .m) (firstOf s) (rangesOf s) (omega (arith, bounded .t-low, ranges-length s bounded)) fits (bounded .m-low) (first-form s)
 
   -- no generation writes more places than 57
   pub counts-near : (i : ℕ) → getD (countsOf s) i 0 ≤ getD (countsOf s) (suc i) 0 + 57
-  unfolding countsOf granted rangesOf
-  counts-near i = steps-few 256 (s .m) (firstOf s) (rangesOf s) i (bounded .m-low) (first-form s) (all (s .t))
+  unfolding countsOf granted
+  counts-near i = steps-few 256 (s .m) (firstOf s) (rangesOf s) i (bounded .m-low) (first-form s) (upto-all (2 ^ 56) (rangesOf s) most)
     where
-      all : (t : ℕ) → Upto (2 ^ 56) (replicate t (s .v))
-      all zero = tt
-      all (suc t) = (bounded .v-high, all t)
+      most : (n : ℕ) → n < length (rangesOf s) → getD (rangesOf s) n 0 ≤ 2 ^ 56
+      most n l = range-within s bounded n (omega (arith, ranges-length s bounded)) .1
 
 -- a list and zeros behind it, in n places
-padded : (n k : ℕ) (xs : List ℕ) → length xs ≤ n → n ≤ k → take n (xs ++ replicate k 0) ≡ xs ++ replicate (n - length xs) 0
+pub padded : (n k : ℕ) (xs : List ℕ) → length xs ≤ n → n ≤ k → take n (xs ++ replicate k 0) ≡ xs ++ replicate (n - length xs) 0
 padded zero k [] l h = refl
 padded zero k (x ∷ xs) l h = absurd (omega arith)
 padded (suc n) zero xs l h = absurd (omega arith)
@@ -169,6 +232,10 @@ zeros-behind [] (suc n) zero = refl
 zeros-behind [] (suc n) (suc i) = zeros-behind [] n i
 zeros-behind (x ∷ xs) n zero = refl
 zeros-behind (x ∷ xs) n (suc i) = zeros-behind xs n i
+
+pub filled-at : (n : ℕ) (reply : List ℕ) (i : ℕ) → i < n → getD (filled n reply) i 0 ≡ getD reply i 0
+unfolding filled
+filled-at n reply i l = getD-take n (reply ++ replicate n 0) i 0 l ∙ zeros-behind reply n i
 
 pub filled-length : (n : ℕ) (reply : List ℕ) → length (filled n reply) ≡ n
 unfolding filled
@@ -197,7 +264,7 @@ module _ (s : Shape) (g : ℕ) where
     pub reply-granted : getD (granted s g) 0 0 ≤ g → s .t ≤ 16 → 0 ∷ (granted s g ++ replicate (16 - s .t) 0) ≡ filled layoutFields (layoutReply s g)
     unfolding filled refusal answer misfit layoutRefusal layoutReply
     reply-granted h l =
-        let n = granted-length s g in
+        let n = granted-length s g (outside-within s g o .bounds) in
         rw (o, le-ltb g (getD (granted s g) 0 0) h) (ap (_∷_ 0) (sym (rw n at (padded 16 17 (granted s g) (omega arith) (omega arith)))))
 
 -- the refusal of a layout is one number
@@ -236,11 +303,14 @@ module _ (s : Shape) (g k : ℕ) (h : List ℕ) (promise : k ∷ h ≡ filled la
         let n = layout-none s g reply-none in
         cc (reply-granted s g (n .0) (ltb-false g (getD (granted s g) 0 0) (n .1)) (outside-within s g (n .0) .bounds .t-high))
 
+    many : length (granted s g) ≡ s .t
+    many = granted-length s g (outside-within s g (layout-none s g reply-none .0) .bounds)
+
     pub reply-counts : take (s .t) h ≡ granted s g
-    reply-counts = rw reply-list (take-at (granted s g) (replicate (16 - s .t) 0) (s .t) (granted-length s g))
+    reply-counts = rw reply-list (take-at (granted s g) (replicate (16 - s .t) 0) (s .t) many)
 
     pub reply-count : (i : ℕ) → getD h i 0 ≡ getD (granted s g) i 0
     reply-count i = rw reply-list (zeros-behind (granted s g) (16 - s .t) i)
 
     pub reply-enough : s .t ≤ length h
-    reply-enough = omega (arith, ap length reply-list, length-append (granted s g) (replicate (16 - s .t) 0), granted-length s g)
+    reply-enough = omega (arith, ap length reply-list, length-append (granted s g) (replicate (16 - s .t) 0), many)

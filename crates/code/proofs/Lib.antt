@@ -21,6 +21,8 @@ pub mod ReadCall
 pub mod WriteCall
 pub mod Unread
 pub mod Demand
+pub mod EqualRanges
+pub mod RangesExamples
 pub mod Rows
 pub mod Published
 pub mod Sample

@@ -10,8 +10,8 @@ use Rattle.code.specs.Cells.{place, wit, value, listed, sum, group, grou
 use Rattle.code.specs.Field.{zeros, unerased, past, base, fewest, carriers, told, pattern, judged, read, erase, cleared, lay, after, writeAt, writeOn, write}
 use Rattle.code.specs.Run.{kept}
 use Rattle.code.specs.declared.Shape.{Shape}
-use Rattle.code.specs.Shape.{shaped, firstOf, rangesOf, orderOf, outside, granted, misfit, countsOf, widthOf}
-use Rattle.code.specs.Calls.{readCells, storing, writeCells, refusal, answer, passes, leaves, filled, generation, fieldRead, fieldWrite, unsound, miscounts, exceeds, countTold, spent, writeRefusal, madeAt, writeReply, writeLeaves}
+use Rattle.code.specs.Shape.{single, shaped, firstOf, rangesDue, given, rangesOf, allRanges, orderOf, outside, granted, misfit, countsOf, widthOf}
+use Rattle.code.specs.Calls.{readCells, storing, writeCells, refusal, answer, passes, leaves, filled, generation, fieldRead, fieldWrite, unsound, miscounts, exceeds, countTold, spent, taker, overRange, overTaker, writeRefusal, madeAt, writeReply, writeLeaves}
 use Rattle.code.specs.Many.{numbersMost, fieldBytes, manyReplies, manyCells, manyRefusal, madeReplies, stopReply, manyNumbers, manyTold, manyReply, manyLeaves}
 
 -- the answer and the cells: refusal, stopped, field, how many were written, what the refusal carries, their generations and turned counts
@@ -31,7 +31,7 @@ pub many-worked :
     × Made (shaped 2 3 4) (3 ∷ 4 ∷ 2 ∷ []) (0x00 ∷ 0x00 ∷ 0x00 ∷ []) 6 1 1 1 none (1 ∷ []) (2 ∷ []) (0x03 ∷ 0x00 ∷ 0x00 ∷ [])
     × Made (shaped 2 2 20) (0 ∷ 0 ∷ 0 ∷ []) (0x00 ∷ 0x40 ∷ 0x00 ∷ 0x41 ∷ 0x00 ∷ 0x40 ∷ []) 3 1 1 1 none (2 ∷ []) (4 ∷ [])
     (0xC1 ∷ 0xC0 ∷ 0x00 ∷ 0x41 ∷ 0x00 ∷ 0x40 ∷ [])
-    × Made (record { form = 1; m = 2; t = 3; v = 4 }) (0 ∷ 0 ∷ 0 ∷ []) (0x00 ∷ 0x00 ∷ 0x00 ∷ []) 0 0 0 3 none (1 ∷ 1 ∷ 1 ∷ []) (1 ∷ 1 ∷ 1 ∷ [])
+    × Made (single 1 2 3 4) (0 ∷ 0 ∷ 0 ∷ []) (0x00 ∷ 0x00 ∷ 0x00 ∷ []) 0 0 0 3 none (1 ∷ 1 ∷ 1 ∷ []) (1 ∷ 1 ∷ 1 ∷ [])
     (0x01 ∷ 0x01 ∷ 0x01 ∷ [])
     × Made (shaped 2 3 4) (1 ∷ 1 ∷ 1 ∷ []) (0x03 ∷ 0x0F ∷ 0x00 ∷ []) 15 1 1 1 (2 ∷ 2 ∷ []) (2 ∷ []) (1 ∷ []) (0x0B ∷ 0x0F ∷ 0x00 ∷ [])
     × Made (shaped 2 3 4) (1 ∷ 1 ∷ 1 ∷ []) (0x03 ∷ 0x43 ∷ 0x00 ∷ []) 16 1 1 1 (2 ∷ 0 ∷ []) (2 ∷ []) (1 ∷ []) (0x0B ∷ 0x43 ∷ 0x00 ∷ [])
@@ -39,5 +39,5 @@ pub many-worked :
     × Made (shaped 2 3 4) [] [] 0 0 0 0 none [] [] []
     × Made (shaped 5 3 4) (replicate 65 0) (0x00 ∷ []) 14 0 0 0 none [] [] (0x00 ∷ [])
     × Made (shaped 5 3 4) (replicate 64 0) (0x00 ∷ []) 1 0 0 0 none [] [] (0x00 ∷ [])
-unfolding choose fewer least room counts grant written rank digits number laid places deal plain plainly place wit value listed sum group groups sound witOf byteOf stored ones turned zeros unerased past base fewest carriers told pattern judged read erase cleared lay after writeAt writeOn write kept readCells storing writeCells refusal answer passes leaves filled firstOf rangesOf orderOf outside granted misfit countsOf widthOf generation fieldRead fieldWrite unsound miscounts exceeds countTold spent writeRefusal madeAt writeReply writeLeaves fieldBytes manyReplies manyCells manyRefusal madeReplies stopReply manyNumbers manyTold manyReply manyLeaves
+unfolding choose fewer least room counts grant written rank digits number laid places deal plain plainly place wit value listed sum group groups sound witOf byteOf stored ones turned zeros unerased past base fewest carriers told pattern judged read erase cleared lay after writeAt writeOn write kept readCells storing writeCells refusal answer passes leaves filled firstOf rangesDue given rangesOf allRanges orderOf outside granted misfit countsOf widthOf generation fieldRead fieldWrite unsound miscounts exceeds countTold spent taker overRange overTaker writeRefusal madeAt writeReply writeLeaves fieldBytes manyReplies manyCells manyRefusal madeReplies stopReply manyNumbers manyTold manyReply manyLeaves
 many-worked = ((refl, refl), (refl, refl), (refl, refl), (refl, refl), (refl, refl), (refl, refl), (refl, refl), (refl, refl), (refl, refl), (refl, refl), (refl, refl))

@@ -4,7 +4,7 @@ use mathlib.Core.Path.{_≡_, ap, _∙_}
 use mathlib.Core.Logic.{inl, inr}
 use mathlib.Core.List.{List, [], _∷_, _++_}
 use native.Mathlib.Omega.{arith}
-use lib.ListN.{length, length-append}
+use lib.ListN.{length, getD, length-append}
 use Rattle.code.specs.declared.Kind.the-variants.{Old, New}
 use Rattle.code.specs.Numerals.{sevens, numeralsOf}
 use Rattle.code.specs.LayoutList.{Listed, listedNumbers, listedOf, layoutsOf}
@@ -13,10 +13,10 @@ use Rattle.code.specs.NewDump.{Entry, entryHead, recordsOf, newDumpOf, s
 use Rattle.code.proofs.Tests.{le-or-lt}
 use Rattle.code.proofs.Wits.{Bytes}
 use Rattle.code.proofs.Digits.{sevens-last, sevens-some, sevens-few}
-use Rattle.code.proofs.Parsed.{AllSound}
+use Rattle.code.proofs.Parsed.{Sound, AllSound}
 use Rattle.code.proofs.LayoutLists.{count-byte, layouts-append}
 use Rattle.code.proofs.Dumps.{dump-was, new-printed}
-use Rattle.code.proofs.FirstUse.{Lists, joined-known, joined-fresh, first-keeps, joined-lists}
+use Rattle.code.proofs.FirstUse.{Lists, own-listed, joined-known, joined-fresh, first-keeps, joined-lists}
 use Rattle.code.proofs.Moves.{entriesIn, layoutsIn}
 
 -- the bytes of a number
@@ -27,7 +27,7 @@ size x = length (sevens 9 x)
 abbrev common : Entry → ℕ
 common e = size (e .serial) + (size (length (e .cells)) + length (e .cells))
 
-old-size : (e : Entry) → length (recordOf (entryHead ownLayouts e) (e .cells)) ≡ common e + (size (e .shape .m) + (size (e .shape .t) + size (e .shape .v)))
+old-size : (e : Entry) → length (recordOf (entryHead ownLayouts e) (e .cells)) ≡ common e + (size (e .shape .m) + (size (e .shape .t) + size (getD (e .shape .v) 0 0)))
 unfolding recordOf entryHead numeralsOf
 old-size e = simp length-append (omega arith)
 
@@ -36,10 +36,10 @@ unfolding recordOf entryHead numeralsOf
 new-size ls e = simp length-append (omega arith)
 
 -- the bytes of a layout of form 0
-layout-size : (e : Entry) → e .shape .form ≡ 0 →
-    length (layoutsOf (listedOf (e .shape) ∷ [])) ≡ 1 + (size (e .shape .m) + (size (e .shape .t) + size (e .shape .v)))
-unfolding layoutsOf listedNumbers listedOf numeralsOf
-layout-size e z = simp length-append (omega (arith, ap size z, ap length (sevens-last 8 0 (omega arith))))
+layout-size : (e : Entry) → Sound ownLayouts e →
+    length (layoutsOf (listedOf (e .shape) ∷ [])) ≡ 1 + (size (e .shape .m) + (size (e .shape .t) + size (getD (e .shape .v) 0 0)))
+unfolding layoutsOf listedNumbers numeralsOf
+layout-size e s = rw (own-listed e s) (simp length-append (omega (arith, ap length (sevens-last 8 0 (omega arith)))))
 
 -- every layout costs two bytes more than its first use has, and every further use costs less
 pub moved-from : (es : List Entry) (ls : List Listed) → AllSound ownLayouts es → length (firstUse ls es) ≤ 64 →
@@ -64,7 +64,7 @@ moved-from (e ∷ es) ls s few =
           let n : length (joined ls l) ≡ suc (length ls) = omega (arith, ap length j, length-append ls (l ∷ [])) in
           let k : length (layoutsOf (joined ls l)) ≡ length (layoutsOf ls) + length (layoutsOf (l ∷ [])) =
           ap (λ ks. length (layoutsOf ks)) j ∙ ap length (layouts-append ls (l ∷ [])) ∙ length-append (layoutsOf ls) (layoutsOf (l ∷ [])) in
-          omega (arith, layout-size e (s .0 .listing .1))
+          omega (arith, layout-size e (s .0))
       | inr g ↦
           let j : joined ls l ≡ ls = joined-known ls l g in
           let n : length (joined ls l) ≡ length ls = ap length j in
@@ -98,7 +98,7 @@ restored-from (e ∷ es) ls =
     let b = length-append (recordOf (entryHead (listedLayouts ls) e) (e .cells)) (recordsOf (listedLayouts ls) es) in
     let m = sevens-few 9 (e .shape .m) in
     let t = sevens-few 9 (e .shape .t) in
-    let v = sevens-few 9 (e .shape .v) in
+    let v = sevens-few 9 (getD (e .shape .v) 0 0) in
     omega (arith, restored-from es ls, sevens-some 8 (e .serial), sevens-some 8 (e .layout), sevens-some 8 (length (e .cells)))
 
 pub old-length : (bytes : List ℕ) → Bytes bytes → stopOf (walk New bytes) ≡ [] → length (toOld bytes) ≤ 10 * length bytes

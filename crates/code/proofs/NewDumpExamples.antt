@@ -4,12 +4,13 @@ use mathlib.Core.Path.{_≡_, refl}
 use mathlib.Core.List.{List, [], _∷_, _++_}
 use lib.ListN.{replicate}
 use Rattle.code.specs.declared.Kind.the-variants.{Old, New}
-use Rattle.code.specs.declared.Record.{Record}
 use Rattle.code.specs.Lists.{same}
-use Rattle.code.specs.Calls.{refusal, answer, leaves}
+use Rattle.code.specs.Shape.{single, rangesDue, given}
+use Rattle.code.specs.Cells.{listed}
+use Rattle.code.specs.Calls.{refusal, answer, leaves, filled}
 use Rattle.code.specs.Numerals.{sevens, numeralsOf, longer, readSevens, preceded, readNumbers}
-use Rattle.code.specs.LayoutList.{listedNumbers, listedBy, listedShape, listedOf, layoutsOf, ledLayouts, readLayouts, countedLayouts, layoutList}
-use Rattle.code.specs.Dump.{recordOf, recordBy, outOfList, broken, found, stepIn, taken, ended, stopped, behindList, openingAs, opening, stepOn, step, cellsOf, walkFrom, startOf, walk}
+use Rattle.code.specs.LayoutList.{listedNumbers, listedBy, listedShape, listedOf, layoutsOf, ledLayouts, uncounted, followed, readLayout, readLayouts, countedLayouts, layoutList}
+use Rattle.code.specs.Dump.{recordOf, Record, recordBy, outOfList, broken, found, stepIn, taken, ended, stopped, behindList, openingAs, opening, stepOn, step, cellsOf, walkFrom, startOf, walk}
 use Rattle.code.specs.NewDump.{entryHead, recordsOf, newDumpOf, entriesOf, stopOf, listedIn, placeOf, joined, firstUse, numbered, foreign, firstRefusal, moveRefusal}
 use Rattle.code.specs.NewDump.{toNew, toNewRefusal, toNewReply, toNewLeaves, toOld, toOldRefusal, toOldReply, toOldLeaves}
 
@@ -32,24 +33,24 @@ pub moved :
     × (toNewReply old (replicate 27 0) ≡ 9 ∷ [])
     × (toOldReply (2 ∷ 0 ∷ 2 ∷ 3 ∷ 4 ∷ 1 ∷ 2 ∷ 3 ∷ 4 ∷ 7 ∷ 0 ∷ 1 ∷ 0x4F ∷ []) (replicate 100 0) ≡ 12 ∷ [])
     × (toOld (2 ∷ 0 ∷ 2 ∷ 3 ∷ 4 ∷ 0 ∷ 2 ∷ 3 ∷ 4 ∷ 7 ∷ 1 ∷ 1 ∷ 0x4F ∷ []) ≡ 7 ∷ 2 ∷ 3 ∷ 4 ∷ 1 ∷ 0x4F ∷ [])
-unfolding refusal answer leaves same sevens numeralsOf longer readSevens preceded readNumbers listedNumbers listedBy listedShape listedOf layoutsOf ledLayouts readLayouts countedLayouts layoutList recordOf recordBy outOfList broken found stepIn behindList openingAs opening stepOn step cellsOf walkFrom startOf walk entryHead recordsOf newDumpOf entriesOf stopOf listedIn placeOf joined firstUse numbered foreign firstRefusal moveRefusal toNew toNewRefusal toNewReply toNewLeaves toOld toOldRefusal toOldReply toOldLeaves
+unfolding refusal answer leaves same sevens numeralsOf longer readSevens preceded readNumbers listedNumbers listedBy filled rangesDue listedShape listed given listedOf layoutsOf ledLayouts uncounted followed readLayout readLayouts countedLayouts layoutList recordOf recordBy outOfList broken found stepIn behindList openingAs opening stepOn step cellsOf walkFrom startOf walk entryHead recordsOf newDumpOf entriesOf stopOf listedIn placeOf joined firstUse numbered foreign firstRefusal moveRefusal toNew toNewRefusal toNewReply toNewLeaves toOld toOldRefusal toOldReply toOldLeaves
 moved = ((refl, refl), (refl, refl), (refl, refl), (refl, refl), refl, refl, refl, refl)
 
 -- a record with the numbers serial, layout, form, m, t, v, start and count
 abbrev of : ℕ → ℕ → ℕ → ℕ → ℕ → ℕ → ℕ → ℕ → Record
 of serial layout form m t v start count =
-    record { serial = serial; layout = layout; shape = record { form = form; m = m; t = t; v = v }; start = start; count = count }
+    record { serial = serial; layout = layout; shape = single form m t v; start = start; count = count }
 
 -- an empty dump has no count; the steps behind the layouts, which may be 64
 pub walked :
     (walk New [] ≡ stopped 7 (0 ∷ []) ∷ [])
     × (walk New new ≡ taken (of 7 0 0 2 3 4 12 1) ∷ taken (of 300 1 0 2 2 20 17 2) ∷ taken (of 8 0 0 2 3 4 22 1) ∷ taken (of 9 1 0 2 2 20 26 2) ∷ ended ∷ [])
-    × (walk New (1 ∷ 2 ∷ 2 ∷ 3 ∷ 4 ∷ 7 ∷ 0 ∷ 1 ∷ 0x4F ∷ []) ≡ taken (of 7 0 2 2 3 4 8 1) ∷ ended ∷ [])
+    × (walk New (1 ∷ 3 ∷ 2 ∷ 3 ∷ 4 ∷ 7 ∷ 0 ∷ 1 ∷ 0x4F ∷ []) ≡ taken (of 7 0 3 2 3 4 8 1) ∷ ended ∷ [])
     × (walk New (1 ∷ 0 ∷ 2 ∷ 3 ∷ 4 ∷ 7 ∷ 0 ∷ 1 ∷ 0x4F ∷ 8 ∷ 1 ∷ 1 ∷ 0x4F ∷ []) ≡ taken (of 7 0 0 2 3 4 8 1) ∷ stopped 7 (9 ∷ []) ∷ [])
     × (walk New (1 ∷ 0 ∷ 2 ∷ 3 ∷ []) ≡ stopped 7 (0 ∷ []) ∷ [])
     × (walk New (65 ∷ replicate 260 0) ≡ stopped 7 (0 ∷ []) ∷ [])
     × (walk New (64 ∷ replicate 256 0) ≡ ended ∷ [])
-unfolding longer readSevens preceded readNumbers listedBy listedShape ledLayouts readLayouts countedLayouts layoutList recordBy outOfList broken found stepIn behindList openingAs opening stepOn step walkFrom startOf walk
+unfolding longer readSevens preceded readNumbers listedBy filled rangesDue listedShape ledLayouts uncounted followed readLayout readLayouts countedLayouts layoutList recordBy outOfList broken found stepIn behindList openingAs opening stepOn step walkFrom startOf walk
 walked = (refl, refl, refl, refl, refl, refl, refl)
 
 -- records `01 02 02 v 00` with as many ranges v, from 2 on
@@ -63,5 +64,5 @@ pub limits :
     × (toNewReply (ranging 65 2) (replicate 1000 0) ≡ 13 ∷ [])
     × (toNewReply (5 ∷ 2 ∷ 3 ∷ 4 ∷ 0xF6 ∷ 0xFF ∷ 3 ∷ replicate 65526 0) (replicate 65536 0) ≡ 0 ∷ 65536 ∷ [])
     × (toNewReply (5 ∷ 2 ∷ 3 ∷ 4 ∷ 0xF7 ∷ 0xFF ∷ 3 ∷ replicate 65527 0) (replicate 65536 0) ≡ 8 ∷ [])
-unfolding refusal answer same sevens numeralsOf longer readSevens preceded readNumbers listedNumbers listedOf layoutsOf recordOf recordBy outOfList broken found stepIn openingAs opening stepOn step cellsOf walkFrom startOf walk entryHead recordsOf newDumpOf entriesOf stopOf placeOf joined firstUse numbered firstRefusal moveRefusal toNew toNewRefusal toNewReply
+unfolding refusal answer same sevens numeralsOf longer readSevens preceded readNumbers listedNumbers listed given listedOf layoutsOf recordOf recordBy outOfList broken found stepIn openingAs opening stepOn step cellsOf walkFrom startOf walk entryHead recordsOf newDumpOf entriesOf stopOf placeOf joined firstUse numbered firstRefusal moveRefusal toNew toNewRefusal toNewReply
 limits = (refl, refl, refl, refl)

@@ -9,12 +9,12 @@ use Rattle.code.specs.Cells.{place, wit, value, listed, sum, group, grou
 use Rattle.code.specs.Field.{zeros, unerased, past, base, fewest, carriers, told, pattern, judged, read, erase, cleared, lay, after, writeAt, writeOn, write}
 use Rattle.code.specs.Run.{kept}
 use Rattle.code.specs.declared.Shape.{Shape}
-use Rattle.code.specs.Shape.{shaped, firstOf, rangesOf, orderOf, outside, granted, misfit, countsOf, widthOf}
-use Rattle.code.specs.Calls.{readCells, storing, writeCells, refusal, answer, leaves, layoutRefusal, layoutReply, fieldRead, fieldWrite, unsound, numberless, miscounts, exceeds, countTold, spent, generation, holds, left, readRefusal, readReply, writeRefusal, madeAt, writeReply, writeLeaves}
+use Rattle.code.specs.Shape.{single, shaped, firstOf, rangesDue, given, rangesOf, allRanges, orderOf, outside, granted, misfit, countsOf, widthOf}
+use Rattle.code.specs.Calls.{readCells, storing, writeCells, refusal, answer, leaves, layoutRefusal, layoutReply, fieldRead, fieldWrite, unsound, numberless, miscounts, exceeds, countTold, spent, taker, overRange, overTaker, generation, holds, left, readRefusal, readReply, writeRefusal, madeAt, writeReply, writeLeaves}
 
 -- a shape of a new drive
 abbrev new : ℕ → ℕ → ℕ → Shape
-new m t v = record { form = 1; m = m; t = t; v = v }
+new m t v = single 1 m t v
 
 -- a write's reply and the cells that it leaves
 abbrev Written : Shape → ℕ → List ℕ → List ℕ → List ℕ → Type 0
@@ -29,8 +29,8 @@ pub lists-differ :
     × (layoutReply (shaped 4 2 46) 256 ≡ 0 ∷ 3 ∷ 2 ∷ [])
     × (layoutReply (new 4 2 46) 256 ≡ 0 ∷ 4 ∷ 2 ∷ [])
     × (layoutReply (new 2 3 4) 256 ≡ 0 ∷ 4 ∷ 3 ∷ 2 ∷ [])
-    × (layoutReply (record { form = 2; m = 2; t = 2; v = 20 }) 256 ≡ 1 ∷ [])
-unfolding choose fewer least room counts grant written rank digits number laid places deal plain plainly place wit value listed sum group groups sound witOf byteOf stored ones turned zeros unerased past base fewest carriers told pattern judged read erase cleared lay after writeAt writeOn write kept readCells storing writeCells refusal answer leaves firstOf rangesOf orderOf outside granted misfit countsOf widthOf layoutRefusal layoutReply fieldRead fieldWrite unsound numberless miscounts exceeds countTold spent generation holds left readRefusal readReply writeRefusal madeAt writeReply writeLeaves
+    × (layoutReply (single 3 2 2 20) 256 ≡ 1 ∷ [])
+unfolding choose fewer least room counts grant written rank digits number laid places deal plain plainly place wit value listed sum group groups sound witOf byteOf stored ones turned zeros unerased past base fewest carriers told pattern judged read erase cleared lay after writeAt writeOn write kept readCells storing writeCells refusal answer leaves firstOf rangesDue given rangesOf allRanges orderOf outside granted misfit countsOf widthOf layoutRefusal layoutReply fieldRead fieldWrite unsound numberless miscounts exceeds countTold spent taker overRange overTaker generation holds left readRefusal readReply writeRefusal madeAt writeReply writeLeaves
 lists-differ = (refl, refl, refl, refl, refl, refl, refl, refl)
 
 -- blank cells have no number; a written 0 turns cells; the numbers of generation 1 are those of form 0 less 1
@@ -46,5 +46,5 @@ pub worked-new :
     × (readReply (new 2 3 4) (0x08 ∷ []) ≡ 16 ∷ 1 ∷ [])
     × Written (new 2 3 4) 0 (0x01 ∷ []) (0 ∷ 2 ∷ 2 ∷ []) (0x07 ∷ [])
     × Written (new 2 3 4) 0 (0x1F ∷ []) (5 ∷ []) (0x1F ∷ [])
-unfolding choose fewer least room counts grant written rank digits number laid places deal plain plainly place wit value listed sum group groups sound witOf byteOf stored ones turned zeros unerased past base fewest carriers told pattern judged read erase cleared lay after writeAt writeOn write kept readCells storing writeCells refusal answer leaves firstOf rangesOf orderOf outside granted misfit countsOf widthOf layoutRefusal layoutReply fieldRead fieldWrite unsound numberless miscounts exceeds countTold spent generation holds left readRefusal readReply writeRefusal madeAt writeReply writeLeaves
+unfolding choose fewer least room counts grant written rank digits number laid places deal plain plainly place wit value listed sum group groups sound witOf byteOf stored ones turned zeros unerased past base fewest carriers told pattern judged read erase cleared lay after writeAt writeOn write kept readCells storing writeCells refusal answer leaves firstOf rangesDue given rangesOf allRanges orderOf outside granted misfit countsOf widthOf layoutRefusal layoutReply fieldRead fieldWrite unsound numberless miscounts exceeds countTold spent taker overRange overTaker generation holds left readRefusal readReply writeRefusal madeAt writeReply writeLeaves
 worked-new = (refl, refl, refl, (refl, refl), (refl, refl), (refl, refl), (refl, refl), refl, refl, (refl, refl), (refl, refl))

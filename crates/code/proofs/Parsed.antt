@@ -9,11 +9,11 @@ use lib.ListN.{length, getD, take, drop, length-drop, take-append-drop, drop-of-
 use lib.Seq.{drop-cons, drop-drop, length-take-le}
 use borrow.Author.Tests.{lt-leb, leb-false}
 use Rattle.code.specs.declared.Kind.{Kind}
-use Rattle.code.specs.declared.Record.{Record}
 use Rattle.code.specs.Lists.{Below}
+use Rattle.code.specs.Shape.{shaped}
 use Rattle.code.specs.Numerals.{numeralsOf, Numbers, cut, numbers, readNumbers}
 use Rattle.code.specs.LayoutList.{unlisted, listedShape}
-use Rattle.code.specs.Dump.{recordOf, Source, ownLayouts, listedLayouts, headLength, Step, taken, ended, stopped, recordBy, outOfList, broken, found, recordAt, stepIn}
+use Rattle.code.specs.Dump.{Record, recordOf, Source, ownLayouts, listedLayouts, headLength, Step, taken, ended, stopped, recordBy, outOfList, broken, found, recordAt, stepIn}
 use Rattle.code.specs.Dump.{entered, opening, step, cellsOf, walkFrom, onward, startOf, walk}
 use Rattle.code.specs.NewDump.{Entry, entryHead, recordsOf, entriesOf, stopOf}
 use Rattle.code.proofs.Tests.{le-or-lt, clash}
@@ -21,9 +21,9 @@ use Rattle.code.proofs.Wits.{Bytes}
 use Rattle.code.proofs.Records.{headOf, record-length, behind, step-inside, step-ended, record-start, record-count, step-entered, record-stands}
 use Rattle.code.proofs.Walk.{numbers-ahead, step-in-given, step-forward, entered-short, walk-taken, walk-ended, walk-stopped, onward-taken}
 
--- a record of an old dump has no number of a layout and form 0, one of a new dump the shape of a listed layout
+-- a record of an old dump has no number of a layout, form 0 and one range, one of a new dump the shape of a listed layout
 abbrev pub Listing : Source → Entry → Type 0
-Listing ownLayouts e = (e .layout ≡ 0) × (e .shape .form ≡ 0)
+Listing ownLayouts e = (e .layout ≡ 0) × (e .shape ≡ shaped (e .shape .m) (e .shape .t) (getD (e .shape .v) 0 0))
 Listing (listedLayouts ls) e = (e .layout < length ls) × (e .shape ≡ listedShape (getD ls (e .layout) unlisted))
 
 -- what a dump can hold: the numbers before n are small enough, and the layout is one that the dump can say
@@ -62,7 +62,7 @@ record-for ownLayouts e start s =
     sym (λ i. record {
       serial = e .serial;
       layout = s .listing .0 i;
-      shape = record { form = s .listing .1 i; m = e .shape .m; t = e .shape .t; v = e .shape .v };
+      shape = s .listing .1 i;
       start = start;
       count = length (e .cells);
     })

@@ -4,7 +4,7 @@ use mathlib.Core.Path.{_≡_, refl, sym, _∙_}
 use mathlib.Core.Logic.{inl, inr}
 use mathlib.Core.List.{List, [], _∷_}
 use native.Mathlib.Omega.{arith}
-use native.Mathlib.Nat.{pow-zero, min-eq-right}
+use native.Mathlib.Nat.{add-zero, pow-zero, min-eq-right}
 use lib.ListN.{length, getD, take, replicate, length-replicate, length-take, getD-replicate}
 use lib.Dec.{leb}
 use borrow.Author.Tests.{le-leb, lt-leb, lt-ltb, le-ltb}
@@ -127,6 +127,18 @@ equal-range first t v c (x ∷ xs) u = (
   equal-range first t v (next first (length (replicate t v)) c x)
       xs (u .1),
 )
+
+-- and those of a sequence from blank cells that has no opening zeros: generation k + 1 would take the number at place k
+pub listed-range : (vs : List ℕ) (c : ℕ) (xs : List ℕ) → c ≤ length vs → ((k : ℕ) → k < length xs → c + k < length vs → getD xs k 0 < getD vs (c + k) 0) →
+    InRange 1 vs c xs
+unfolding InRange
+listed-range vs c [] l f = tt
+listed-range vs c (x ∷ xs) l f =
+    let n = next-up 1 (length vs) c x (omega arith) in (
+      λ h. rw (add-zero c) at (f 0 (omega arith) (omega arith)),
+      rw n (listed-range vs (min (length vs) (suc c)) xs (omega arith) (λ k h g.
+          let q : min (length vs) (suc c) + k ≡ c + suc k = omega arith in rw q (f (suc k) (omega arith) (omega arith)))),
+    )
 
 pub blank-written : (h : ℕ) → written (replicate h 0) ≡ 0
 unfolding written

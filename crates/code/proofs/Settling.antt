@@ -14,7 +14,7 @@ use Rattle.code.specs.Dump.{listedLayouts}
 use Rattle.code.specs.NewDump.{Entry, placeOf, joined, firstUse, numbered}
 use Rattle.code.proofs.Tests.{le-or-lt}
 use Rattle.code.proofs.Parsed.{Sound, AllSound}
-use Rattle.code.proofs.LayoutLists.{AllListable, listable-at, shape-back}
+use Rattle.code.proofs.LayoutLists.{AllListable, listable-at, listable-few, shape-back}
 use Rattle.code.proofs.FirstUse.{alike, alike-is, alike-self, place-hit, place-miss, place-append, place-new, joined-known, joined-fresh, joined-by, joined-lists, place-first, renumbered}
 
 -- the first record of a layout's number, by its place among the records; their count where it has none
@@ -158,7 +158,7 @@ place-late (k ∷ ls) (suc n) l h = go (alike k l) refl (place-late ls n l) h
 module _ (ls : List Listed) (d : Different ls) (listable : AllListable ls) where
   -- the layout of a record is the one at its number
   layout-of : (e : Entry) → Sound (listedLayouts ls) e → listedOf (e .shape) ≡ getD ls (e .layout) unlisted
-  layout-of e s = ap listedOf (s .listing .1) ∙ shape-back (getD ls (e .layout) unlisted) (listable-at ls (e .layout) listable (s .listing .0) .single)
+  layout-of e s = ap listedOf (s .listing .1) ∙ shape-back (getD ls (e .layout) unlisted) (listable-few (getD ls (e .layout) unlisted) (listable-at ls (e .layout) listable (s .listing .0)))
 
   place-of : (e : Entry) → Sound (listedLayouts ls) e → placeOf ls (listedOf (e .shape)) ≡ e .layout
   place-of e s = ap (placeOf ls) (layout-of e s) ∙ place-at ls (e .layout) d (s .listing .0)

@@ -5,31 +5,24 @@ use mathlib.Core.Bool.{Bool, true, false, cond}
 use mathlib.Core.List.{List, [], _∷_, _++_}
 use native.Mathlib.Omega.{arith}
 use lib.Dec.{ltb}
-use lib.ListN.{length}
+use lib.ListN.{length, length-append}
 use Rattle.code.specs.declared.Kind.{Kind}
 use Rattle.code.specs.declared.Kind.the-variants.{Old, New}
-use Rattle.code.specs.declared.Record.{Record}
 use Rattle.code.specs.Numerals.{Numbers, cut, numbers, readNumbers}
 use Rattle.code.specs.LayoutList.{Layouts, brokenList, layouts, layoutList}
-use Rattle.code.specs.Dump.{Source, headLength, broken, found, recordAt, stepIn, Step, taken, ended, stopped, Opening, barred, entered, behindList, openingAs, opening, stepOn, step}
+use Rattle.code.specs.Dump.{Record, Source, headLength, broken, found, recordAt, stepIn, Step, taken, ended, stopped, Opening, barred, entered, behindList, openingAs, opening, stepOn, step}
 use Rattle.code.specs.Dump.{recordNumbers, outcome, stepValues, stepReply}
 use Rattle.code.proofs.Tests.{clash}
 
--- a record is fixed by its numbers
-pub numbers-same : (r p : Record) (xs ys : List ℕ) → recordNumbers r ++ xs ≡ recordNumbers p ++ ys → (r ≡ p) × (xs ≡ ys)
-unfolding recordNumbers
-numbers-same r p xs ys e =
-    let a : r .serial ≡ p .serial = cc in
-    let b : r .layout ≡ p .layout = cc in
-    let c : r .shape .form ≡ p .shape .form = cc in
-    let d : r .shape .m ≡ p .shape .m = cc in
-    let f : r .shape .t ≡ p .shape .t = cc in
-    let g : r .shape .v ≡ p .shape .v = cc in
-    let h : r .start ≡ p .start = cc in
-    let k : r .count ≡ p .count = cc in (
-      λ i. record { serial = a i; layout = b i; shape = record { form = c i; m = d i; t = f i; v = g i }; start = h i; count = k i },
-      cc,
-    )
+-- two lists are the same in front, where they are as long there, and behind
+append-same : (xs ys more rest : List ℕ) → length xs ≡ length ys → xs ++ more ≡ ys ++ rest → (xs ≡ ys) × (more ≡ rest)
+append-same [] [] more rest l e = (refl, e)
+append-same [] (y ∷ ys) more rest l e = absurd (omega arith)
+append-same (x ∷ xs) [] more rest l e = absurd (omega arith)
+append-same (x ∷ xs) (y ∷ ys) more rest l e =
+    let h : x ≡ y = cc in
+    let w = append-same xs ys more rest (omega arith) (cc) in
+    (rw (h, w .0), w .1)
 
 -- a step stops, and a dump is barred, with a refusal that carries one number at most
 abbrev pub Refusing : Step → Type 0
@@ -72,17 +65,18 @@ module _ (kind : Kind) (bytes : List ℕ) where
           inside source (ltb at (length bytes)) (broken source bytes ns) ns
 
   module _ (at : ℕ) where
-    pub told-record : (r : Record) (reply : List ℕ) → 0 ∷ (recordNumbers r ++ reply) ≡ stepReply kind bytes at →
-        (step kind bytes at ≡ taken r) × (outcome bytes r ≡ reply)
+    -- the record that a reply tells of, by its eight numbers
+    pub told-record : (xs reply : List ℕ) → length xs ≡ 8 → 0 ∷ (xs ++ reply) ≡ stepReply kind bytes at →
+        (r : Record) × (step kind bytes at ≡ taken r) × (recordNumbers r ≡ xs) × (outcome bytes r ≡ reply)
     unfolding stepReply stepValues recordNumbers
-    told-record r reply e = go (step kind bytes at) refl (step-refusing at) e
+    told-record xs reply l e = go (step kind bytes at) refl (step-refusing at) e
       where
-        go : (s : Step) → step kind bytes at ≡ s → Refusing s → 0 ∷ (recordNumbers r ++ reply) ≡ stepValues bytes s →
-            (step kind bytes at ≡ taken r) × (outcome bytes r ≡ reply)
-        go (taken p) q _ e =
-            let w = numbers-same r p reply (outcome bytes p) (cc) in
-            (q ∙ ap taken (sym (w .0)), rw (w .0) (sym (w .1)))
-        go ended q _ e = clash (cc)
+        go : (s : Step) → step kind bytes at ≡ s → Refusing s → 0 ∷ (xs ++ reply) ≡ stepValues bytes s →
+            (r : Record) × (step kind bytes at ≡ taken r) × (recordNumbers r ≡ xs) × (outcome bytes r ≡ reply)
+        go (taken r) q _ e =
+            let w = append-same xs (recordNumbers r) reply (outcome bytes r) l (cc) in
+            (r, q, sym (w .0), sym (w .1))
+        go ended q _ e = absurd (omega (arith, ap length e, length-append xs reply))
         go (stopped k carried) q p e = let z : 0 ≡ k = cc in absurd (omega (arith, p .0))
 
     pub told-ended : 0 ∷ [] ≡ stepReply kind bytes at → step kind bytes at ≡ ended

@@ -2,9 +2,11 @@
 use Prim.Native.Nat.{ℕ, zero, suc, _+_, _≤_, _<_}
 use mathlib.Core.Path.{_≡_, refl, sym, ap, _∙_}
 use mathlib.Core.Logic.{_⊎_, inl, inr, _≢_}
-use mathlib.Core.Bool.{Bool, true, false, true≢false, cond, _&&_}
+use mathlib.Core.Bool.{Bool, true, false, true≢false, cond, not, _&&_}
 use native.Mathlib.Omega.{arith}
 use native.Mathlib.Decide.{decLe}
+use lib.Dec.{leb, ltb}
+use borrow.Author.Tests.{le-leb, lt-leb, lt-ltb, le-ltb}
 use Rattle.code.specs.Count.{least}
 
 pub le-or-lt : (a b : ℕ) → (a ≤ b) ⊎ (b < a)
@@ -60,3 +62,18 @@ same-test true true e = refl
 same-test true false e = absurd (omega arith)
 same-test false true e = absurd (omega arith)
 same-test false false e = refl
+
+pub and-true : (a : Bool) → (a && true) ≡ a
+and-true true = refl
+and-true false = refl
+
+pub and-false : (a : Bool) → (a && false) ≡ false
+and-false true = refl
+and-false false = refl
+
+-- not being at most is being above
+pub less-not : (v x : ℕ) → not (leb v x) ≡ ltb x v
+less-not v x = elim (le-or-lt v x) [
+  | inl h ↦ rw (le-leb v x h, le-ltb x v h)
+  | inr h ↦ rw (lt-leb v x h, lt-ltb x v h)
+]

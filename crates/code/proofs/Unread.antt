@@ -14,7 +14,7 @@ use Rattle.code.specs.Shape.{firstOf, rangesOf, orderOf, countsOf, width
 use Rattle.code.specs.Cells.{wit, opened, sound}
 use Rattle.code.specs.Deal.{written}
 use Rattle.code.specs.Field.{zeros, unerased, past, base, fewest, carriers, told, Reading, blank, reads, miscounted, beyond, judged, read}
-use Rattle.code.specs.Calls.{readCells, layoutRefusal, fieldRead, numberless, miscounts, exceeds, readReply, writeReply}
+use Rattle.code.specs.Calls.{readCells, layoutRefusal, fieldRead, numberless, miscounts, exceeds, overRange, readReply, writeReply}
 use Rattle.code.proofs.Tests.{clash}
 use Rattle.code.proofs.Cells.{groups-length}
 use Rattle.code.proofs.ReadCall.{read-unsound, read-none, read-miscounted, read-beyond, read-found}
@@ -103,15 +103,15 @@ module _ (s : Shape) (bs : List ℕ) (ok : layoutRefusal s 256 ≡ []) where
         go (miscounted i n) f u = inl (rw (read-miscounted s bs ok q i n f))
         go (beyond i) f u = inr (rw (read-beyond s bs ok q i f))
 
-    pub write-as-read : (x : ℕ) → x < s .v → unreadable (fieldRead s bs) ≡ true → writeReply s x bs ≡ readReply s bs
+    pub write-as-read : (x : ℕ) → overRange s x ≡ false → unreadable (fieldRead s bs) ≡ true → writeReply s x bs ≡ readReply s bs
     unfolding unreadable
     write-as-read x l u = go (fieldRead s bs) refl u
       where
         go : (r : Reading) → fieldRead s bs ≡ r → unreadable r ≡ true → writeReply s x bs ≡ readReply s bs
         go blank f u = clash (cc)
         go (reads i y) f u = clash (cc)
-        go (miscounted i n) f u = write-miscounted s x bs ok q i n l f .0 ∙ sym (read-miscounted s bs ok q i n f)
-        go (beyond i) f u = write-beyond s x bs ok q i l f .0 ∙ sym (read-beyond s bs ok q i f)
+        go (miscounted i n) f u = write-miscounted s x bs ok q l i n f .0 ∙ sym (read-miscounted s bs ok q i n f)
+        go (beyond i) f u = write-beyond s x bs ok q l i f .0 ∙ sym (read-beyond s bs ok q i f)
 
   abbrev pub field : List ℕ
   field = opened (orderOf s) (s .m) (widthOf s) bs

@@ -8,10 +8,9 @@ use native.Mathlib.Omega.{arith}
 use lib.ListN.{length, getD, drop, length-drop, take-append-drop}
 use lib.Seq.{drop-drop}
 use Rattle.code.specs.declared.Kind.{Kind}
-use Rattle.code.specs.declared.Record.{Record}
 use Rattle.code.specs.Lists.{Below}
 use Rattle.code.specs.Numerals.{sevens, numeralsOf, Numeral, malformed, numeral, readSevens, Numbers, cut, numbers, preceded, readNumbers}
-use Rattle.code.specs.Dump.{Source, headLength, outOfList, recordBy, broken, recordAt, stepIn, Step, taken, ended, stopped, Opening, barred, entered, opening, step, walkFrom, onward}
+use Rattle.code.specs.Dump.{Record, Source, headLength, outOfList, recordBy, broken, recordAt, stepIn, Step, taken, ended, stopped, Opening, barred, entered, opening, step, walkFrom, onward}
 use Rattle.code.proofs.Tests.{le-or-lt, clash}
 use Rattle.code.proofs.Wits.{Bytes}
 use Rattle.code.proofs.ByteLists.{bytes-drop}

@@ -1,14 +1,14 @@
 -- The write call: test by test as a program comes to them, where a write goes and what it leaves, and that it is refused exactly where the rules make no write.
 use Prim.Native.Nat.{ℕ, zero, suc, _*_, _-_, _^_, _≤_, _<_}
 use mathlib.Core.Path.{_≡_, refl, sym, _∙_}
-use mathlib.Core.Logic.{inl, inr}
+use mathlib.Core.Logic.{_⊎_, inl, inr}
 use mathlib.Core.Bool.{Bool, true, false, true≢false, cond, not, _&&_}
 use mathlib.Core.List.{List, [], _∷_}
 use native.Mathlib.Omega.{arith}
 use native.Mathlib.Decide.{ℕ-discrete}
 use lib.ListN.{length, getD}
 use lib.Arith.{lt-of-le-ne}
-use lib.Dec.{leb, ltb}
+use lib.Dec.{leb, ltb, eqb}
 use borrow.Author.Tests.{le-leb, lt-leb, lt-ltb, le-ltb, ltb-true, eq-eqb, ne-eqb}
 use Rattle.code.specs.declared.Shape.{Shape}
 use Rattle.code.specs.Shape.{firstOf, rangesOf, orderOf, outside, misfit, granted, countsOf, widthOf}
@@ -16,14 +16,14 @@ use Rattle.code.specs.Layout.{room}
 use Rattle.code.specs.Cells.{opened, sound, stored, turned}
 use Rattle.code.specs.Field.{zeros, past, base, fewest, pattern, Reading, blank, reads, miscounted, beyond, read, erase, cleared, lay, after, Writing, refused, wrote, writeAt, writeOn, write}
 use Rattle.code.specs.Run.{accepted, kept}
-use Rattle.code.specs.Calls.{readCells, storing, writeCells, refusal, answer, passes, leaves, layoutRefusal, fieldRead, fieldWrite, unsound, generation, miscounts, exceeds, countTold, spent, writeRefusal, madeAt, writeReply, writeLeaves}
-use Rattle.code.proofs.Tests.{le-or-lt, both-true}
+use Rattle.code.specs.Calls.{readCells, storing, writeCells, refusal, answer, passes, leaves, layoutRefusal, fieldRead, fieldWrite, unsound, generation, miscounts, exceeds, countTold, spent, taker, overRange, overTaker, writeRefusal, madeAt, writeReply, writeLeaves}
+use Rattle.code.proofs.Tests.{both-true, and-true, and-false, less-not}
 use Rattle.code.proofs.Conditions.{holds-room}
 use Rattle.code.proofs.Cells.{turned-most}
 use Rattle.code.proofs.Groups.{blank-zeros, erase-blank}
 use Rattle.code.proofs.Field.{past-next, past-below, Ready, read-past, blank-read, write-read, write-taken}
 use Rattle.code.proofs.Bytes.{storing-accepted, triedCells}
-use Rattle.code.proofs.LayoutCall.{refusal-some, refused-early, passed-early, range-at, bounded, counts-length, is-layout}
+use Rattle.code.proofs.LayoutCall.{refusal-some, refused-early, passed-early, range-single, bounded, counts-length, is-layout}
 
 -- a refused write: its number and what it carries, and the cells as they were
 abbrev pub Refuses : Shape → ℕ → List ℕ → List ℕ → Type 0
@@ -32,7 +32,33 @@ Refuses s x bs reply = (writeReply s x bs ≡ reply) × (writeLeaves s x bs ≡ 
 -- the tests of a write from the fourth on, of cells that read as r
 abbrev lastTests : Shape → ℕ → Reading → List (List ℕ × Bool)
 lastTests s x r =
-    (6 ∷ [], leb (s .v) x) ∷ (15 ∷ generation r ∷ countTold r ∷ [], miscounts r) ∷ (16 ∷ generation r ∷ [], exceeds r) ∷ (5 ∷ [], spent (s .t) r) ∷ []
+    (6 ∷ [], overRange s x) ∷ (15 ∷ generation r ∷ countTold r ∷ [], miscounts r) ∷ (16 ∷ generation r ∷ [], exceeds r)
+    ∷ (5 ∷ [], spent (s .t) r) ∷ (6 ∷ [], overTaker s x r) ∷ []
+
+-- Whether a number is in range, at the fourth test or at the last.
+module _ (s : Shape) where
+  late-false : (x : ℕ) (r : Reading) → x < getD (rangesOf s) (taker r) 0 → overTaker s x r ≡ false
+  unfolding overTaker
+  late-false x r g = rw (lt-leb (getD (rangesOf s) (taker r) 0) x g) (and-false (eqb (s .form) 2))
+
+  module _ (ok : layoutRefusal s 256 ≡ []) where
+    -- where the number passed the fourth test, or the form has no such test, the last one tells
+    late-true : (x : ℕ) (r : Reading) → taker r < s .t → getD (rangesOf s) (taker r) 0 ≤ x → overRange s x ≡ false → overTaker s x r ≡ true
+    unfolding overTaker overRange
+    late-true x r h g l = elim (ℕ-discrete (s .form) 2) [
+      | yes two ↦ rw (eq-eqb (s .form) 2 two, le-leb (getD (rangesOf s) (taker r) 0) x g)
+      | no not-two ↦
+          let one = range-single s (bounded s ok) not-two (taker r) h in
+          absurd (true≢false (rw (ne-eqb (s .form) 2 not-two, le-leb (getD (s .v) 0 0) x (omega (arith, one))) at l))
+    ]
+
+    -- passing both tests is being in the range of the generation at place n
+    pub both-ranges : (x n : ℕ) → n < s .t → not (overRange s x) && not (eqb (s .form) 2 && leb (getD (rangesOf s) n 0) x) ≡ ltb x (getD (rangesOf s) n 0)
+    unfolding overRange
+    both-ranges x n h = elim (ℕ-discrete (s .form) 2) [
+      | yes two ↦ rw (eq-eqb (s .form) 2 two) (less-not (getD (rangesOf s) n 0) x)
+      | no not-two ↦ rw (ne-eqb (s .form) 2 not-two, range-single s (bounded s ok) not-two n h) (and-true _ ∙ less-not (getD (s .v) 0 0) x)
+    ]
 
 module _ (s : Shape) (x : ℕ) (bs : List ℕ) where
   refuses : (k : ℕ) (carried : List ℕ) → writeRefusal s x bs ≡ k ∷ carried → Refuses s x bs (k ∷ carried)
@@ -41,11 +67,24 @@ module _ (s : Shape) (x : ℕ) (bs : List ℕ) where
 
   pub write-some : (k : ℕ) (carried : List ℕ) → writeRefusal s x bs ≡ k ∷ carried → 0 < k
   unfolding writeRefusal
-  write-some k carried q = refusal-some _ (omega arith, (omega arith, (omega arith, (omega arith, (omega arith, (omega arith, (omega arith, tt))))))) k carried q
+  write-some k carried q = refusal-some _ (omega arith, (omega arith, (omega arith, (omega arith, (omega arith, (omega arith, (omega arith, (omega arith, tt)))))))) k carried q
+
+  pub write-barred : (k : ℕ) (carried : List ℕ) → layoutRefusal s 256 ≡ k ∷ carried → writeRefusal s x bs ≡ k ∷ carried
+  unfolding layoutRefusal writeRefusal countsOf
+  write-barred k carried q = refused-early (outside s 256) (misfit 256 (granted s 256)) k carried _ q
+
+  -- a reply that begins with 0 is no refusal
+  pub none-refused : (values : List ℕ) → writeReply s x bs ≡ 0 ∷ values → writeRefusal s x bs ≡ []
+  unfolding writeReply answer
+  none-refused values e = go (writeRefusal s x bs) refl e
+    where
+      go : (r : List ℕ) → writeRefusal s x bs ≡ r →
+          answer r (madeAt (fieldWrite s x bs) ∷ turned (orderOf s) bs (kept bs (fieldWrite s x bs)) ∷ []) ≡ 0 ∷ values → r ≡ []
+      go [] q e = refl
+      go (k ∷ carried) q e = let z : k ≡ 0 = cc in absurd (omega (arith, write-some k carried q))
 
   pub write-no-layout : (k : ℕ) → layoutRefusal s 256 ≡ k ∷ [] → Refuses s x bs (k ∷ [])
-  unfolding layoutRefusal writeRefusal countsOf
-  write-no-layout k q = refuses k [] (refused-early (outside s 256) (misfit 256 (granted s 256)) k [] _ q)
+  write-no-layout k q = refuses k [] (write-barred k [] q)
 
   module _ (ok : layoutRefusal s 256 ≡ []) where
     -- the tests of a write from the third on
@@ -59,30 +98,37 @@ module _ (s : Shape) (x : ℕ) (bs : List ℕ) where
     write-unsound f = refuses 3 [] (write-tests ∙ rw f)
 
     module _ (f : sound (orderOf s) (s .m) (widthOf s) bs ≡ true) where
-      pub write-large : s .v ≤ x → Refuses s x bs (6 ∷ [])
+      pub write-large : overRange s x ≡ true → Refuses s x bs (6 ∷ [])
       unfolding refusal unsound
-      write-large l = refuses 6 [] (write-tests ∙ rw (f, le-leb (s .v) x l))
+      write-large l = refuses 6 [] (write-tests ∙ rw (f, l))
 
-      pub write-miscounted : (i u : ℕ) → x < s .v → fieldRead s bs ≡ miscounted i u → Refuses s x bs (15 ∷ i ∷ u ∷ [])
-      unfolding refusal unsound generation countTold miscounts
-      write-miscounted i u l q = refuses 15 (i ∷ u ∷ []) (write-tests ∙ rw (f, lt-leb (s .v) x l, q))
+      module _ (l : overRange s x ≡ false) where
+        pub write-miscounted : (i u : ℕ) → fieldRead s bs ≡ miscounted i u → Refuses s x bs (15 ∷ i ∷ u ∷ [])
+        unfolding refusal unsound generation countTold miscounts
+        write-miscounted i u q = refuses 15 (i ∷ u ∷ []) (write-tests ∙ rw (f, l, q))
 
-      pub write-beyond : (i : ℕ) → x < s .v → fieldRead s bs ≡ beyond i → Refuses s x bs (16 ∷ i ∷ [])
-      unfolding refusal unsound generation miscounts exceeds
-      write-beyond i l q = refuses 16 (i ∷ []) (write-tests ∙ rw (f, lt-leb (s .v) x l, q))
+        pub write-beyond : (i : ℕ) → fieldRead s bs ≡ beyond i → Refuses s x bs (16 ∷ i ∷ [])
+        unfolding refusal unsound generation miscounts exceeds
+        write-beyond i q = refuses 16 (i ∷ []) (write-tests ∙ rw (f, l, q))
 
-      pub write-spent : (i y : ℕ) → x < s .v → fieldRead s bs ≡ reads i y → i ≡ s .t → Refuses s x bs (5 ∷ [])
-      unfolding refusal unsound miscounts exceeds spent
-      write-spent i y l r q = refuses 5 [] (write-tests ∙ rw (f, lt-leb (s .v) x l, r, eq-eqb i (s .t) q))
+        pub write-spent : (i y : ℕ) → fieldRead s bs ≡ reads i y → i ≡ s .t → Refuses s x bs (5 ∷ [])
+        unfolding refusal unsound miscounts exceeds spent
+        write-spent i y r q = refuses 5 [] (write-tests ∙ rw (f, l, r, eq-eqb i (s .t) q))
 
-      -- an accepted write: the generation, the wits turned, and the cells of the groups that the rules leave
-      pub write-made : (r : Reading) (n : ℕ) (gs : List ℕ) → x < s .v → fieldRead s bs ≡ r → miscounts r ≡ false → exceeds r ≡ false → spent (s .t) r ≡ false →
-          write (2 ^ s .m - 1) (firstOf s) (countsOf s) (rangesOf s) x (opened (orderOf s) (s .m) (widthOf s) bs) ≡ wrote n gs →
-          (writeReply s x bs ≡ 0 ∷ n ∷ turned (orderOf s) bs (stored (orderOf s) (s .m) gs) ∷ []) × (writeLeaves s x bs ≡ stored (orderOf s) (s .m) gs)
-      unfolding refusal unsound fieldWrite writeCells storing writeReply writeLeaves answer leaves madeAt kept widthOf
-      write-made r n gs l q c e p w =
-          let z : writeRefusal s x bs ≡ [] = write-tests ∙ rw (f, lt-leb (s .v) x l, q, c, e, p) in
-          (rw (z, f, w), rw (z, f, w))
+        module _ (r : Reading) (q : fieldRead s bs ≡ r) (c : miscounts r ≡ false) (e : exceeds r ≡ false) (p : spent (s .t) r ≡ false) where
+          -- a number that the next generation has no room for
+          pub write-late : taker r < s .t → getD (rangesOf s) (taker r) 0 ≤ x → Refuses s x bs (6 ∷ [])
+          unfolding refusal unsound
+          write-late h g = refuses 6 [] (write-tests ∙ rw (f, l, q, c, e, p, late-true s ok x r h g l))
+
+          -- an accepted write: the generation, the wits turned, and the cells of the groups that the rules leave
+          pub write-made : (n : ℕ) (gs : List ℕ) → x < getD (rangesOf s) (taker r) 0 →
+              write (2 ^ s .m - 1) (firstOf s) (countsOf s) (rangesOf s) x (opened (orderOf s) (s .m) (widthOf s) bs) ≡ wrote n gs →
+              (writeReply s x bs ≡ 0 ∷ n ∷ turned (orderOf s) bs (stored (orderOf s) (s .m) gs) ∷ []) × (writeLeaves s x bs ≡ stored (orderOf s) (s .m) gs)
+          unfolding refusal unsound fieldWrite writeCells storing writeReply writeLeaves answer leaves madeAt kept widthOf
+          write-made n gs g w =
+              let z : writeRefusal s x bs ≡ [] = write-tests ∙ rw (f, l, q, c, e, p, late-false s x r g) in
+              (rw (z, f, w), rw (z, f, w))
 
 -- Where a write goes, what room its number has, and what it leaves, on groups.
 module _ (s : Shape) (ok : layoutRefusal s 256 ≡ []) where
@@ -92,11 +138,12 @@ module _ (s : Shape) (ok : layoutRefusal s 256 ≡ []) where
   abbrev pub patternAt : ℕ → ℕ → List ℕ
   patternAt n x = pattern full (base full n) (fewest (firstOf s) n) (getD (countsOf s) n 0) (getD (countsOf s) (suc n) 0) x
 
-  -- there is room for every number of the range
-  pub room-for : (n x : ℕ) → n < s .t → x < s .v → x < room full (base full n) (fewest (firstOf s) n) (getD (countsOf s) n 0) (getD (countsOf s) (suc n) 0)
+  -- there is room for every number of a generation's range
+  pub room-for : (n x : ℕ) → n < s .t → x < getD (rangesOf s) n 0 →
+      x < room full (base full n) (fewest (firstOf s) n) (getD (countsOf s) n 0) (getD (countsOf s) (suc n) 0)
   room-for n x l h =
       let room = holds-room full (firstOf s) (countsOf s) (rangesOf s) n (is-layout s ok .holds) (omega (arith, counts-length s ok)) in
-      omega (arith, range-at s n l)
+      omega arith
 
   -- the spare groups are those above the generation's count; blank groups have none
   pub after-erased : (n x : ℕ) (gs : List ℕ) → Ready (countsOf s) n gs → length gs ≡ widthOf s →
@@ -108,20 +155,19 @@ module _ (s : Shape) (ok : layoutRefusal s 256 ≡ []) where
   after-erased (suc n) x gs r l = refl
 
   -- all-zero groups are written at generation 1, others at the one after what they read as
-  pub first-write : (x : ℕ) (gs : List ℕ) → read full (firstOf s) (countsOf s) (rangesOf s) gs ≡ blank → x < s .v →
+  pub first-write : (x : ℕ) (gs : List ℕ) → read full (firstOf s) (countsOf s) (rangesOf s) gs ≡ blank → x < getD (rangesOf s) 0 0 →
       (write full (firstOf s) (countsOf s) (rangesOf s) x gs ≡ wrote 1 (after full (firstOf s) (countsOf s) 0 x gs)) × Ready (countsOf s) 0 gs
   unfolding writeOn
   first-write x gs r h =
-      let some : 0 < s .t = omega (arith, bounded s ok .t-low) in
-      let w = write-taken full (firstOf s) (countsOf s) (rangesOf s) x gs 0 (omega (arith, counts-length s ok)) (omega (arith, range-at s 0 some)) in
+      let w = write-taken full (firstOf s) (countsOf s) (rangesOf s) x gs 0 (omega (arith, counts-length s ok, bounded s ok .t-low)) h in
       (write-read full (firstOf s) (countsOf s) (rangesOf s) x gs blank r ∙ w, blank-read full (firstOf s) (countsOf s) (rangesOf s) gs r)
 
-  pub next-write : (x i y : ℕ) (gs : List ℕ) → x < s .v → read full (firstOf s) (countsOf s) (rangesOf s) gs ≡ reads i y → i < s .t →
+  pub next-write : (x i y : ℕ) (gs : List ℕ) → x < getD (rangesOf s) i 0 → read full (firstOf s) (countsOf s) (rangesOf s) gs ≡ reads i y → i < s .t →
       (write full (firstOf s) (countsOf s) (rangesOf s) x gs ≡ wrote (suc i) (after full (firstOf s) (countsOf s) i x gs)) × Ready (countsOf s) i gs
   unfolding writeOn
   next-write x i y gs h r l =
       let q = read-past full (firstOf s) (countsOf s) (rangesOf s) gs i y r in
-      let w = write-taken full (firstOf s) (countsOf s) (rangesOf s) x gs i (omega (arith, counts-length s ok)) (omega (arith, range-at s i l)) in
+      let w = write-taken full (firstOf s) (countsOf s) (rangesOf s) x gs i (omega (arith, counts-length s ok)) h in
       (write-read full (firstOf s) (countsOf s) (rangesOf s) x gs (reads i y) r ∙ w, rw q (past-next (countsOf s) (zeros gs)))
 
   -- the generation read is at most t
@@ -134,10 +180,10 @@ module _ (s : Shape) (ok : layoutRefusal s 256 ≡ []) where
       below [] z p = absurd (omega arith)
       below (h ∷ hs) z p = past-below h hs z
 
-  -- A number is taken at a generation that is there exactly where it is in range.
-  at-accepted : (x i : ℕ) (gs : List ℕ) → i < s .t → accepted (writeAt full (firstOf s) (countsOf s) (rangesOf s) x gs i) ≡ ltb x (s .v)
+  -- A number is taken at a generation that is there exactly where it is in its range.
+  at-accepted : (x i : ℕ) (gs : List ℕ) → i < s .t → accepted (writeAt full (firstOf s) (countsOf s) (rangesOf s) x gs i) ≡ ltb x (getD (rangesOf s) i 0)
   unfolding writeAt accepted
-  at-accepted x i gs l = rw (lt-ltb i (length (countsOf s)) (omega (arith, counts-length s ok)), range-at s i l) (go (ltb x (s .v)))
+  at-accepted x i gs l = rw (lt-ltb i (length (countsOf s)) (omega (arith, counts-length s ok))) (go (ltb x (getD (rangesOf s) i 0)))
     where
       go : (b : Bool) → accepted (cond (true && b) (wrote (suc i) (after full (firstOf s) (countsOf s) i x gs)) refused) ≡ b
       go true = refl
@@ -147,33 +193,39 @@ module _ (s : Shape) (ok : layoutRefusal s 256 ≡ []) where
   unfolding writeAt
   at-spent x i gs q = rw (le-ltb i (length (countsOf s)) (omega (arith, counts-length s ok)))
 
+  -- cells that are read pass where the number passes both tests of its range
+  both-pass : (a b : Bool) (k j : List ℕ) → passes (refusal ((6 ∷ [], a) ∷ (15 ∷ k, false) ∷ (16 ∷ j, false) ∷ (5 ∷ [], false) ∷ (6 ∷ [], b) ∷ [])) ≡ (not a && not b)
+  unfolding refusal passes
+  both-pass true b k j = refl
+  both-pass false true k j = refl
+  both-pass false false k j = refl
+
+  -- others are refused, the number being in range or not
+  none-pass : (a b c d : Bool) (k j : List ℕ) → b ≡ true ⊎ (c ≡ true ⊎ d ≡ true) → (e : Bool) →
+      passes (refusal ((6 ∷ [], a) ∷ (15 ∷ k, b) ∷ (16 ∷ j, c) ∷ (5 ∷ [], d) ∷ (6 ∷ [], e) ∷ [])) ≡ false
+  unfolding refusal passes
+  none-pass true b c d k j h e = refl
+  none-pass false true c d k j h e = refl
+  none-pass false false true d k j h e = refl
+  none-pass false false false true k j h e = refl
+  none-pass false false false false k j (inl h) e = absurd (true≢false (sym h))
+  none-pass false false false false k j (inr (inl h)) e = absurd (true≢false (sym h))
+  none-pass false false false false k j (inr (inr h)) e = absurd (true≢false (sym h))
+
   acceptance : (x : ℕ) (gs : List ℕ) (r : Reading) → read full (firstOf s) (countsOf s) (rangesOf s) gs ≡ r →
       passes (refusal (lastTests s x r)) ≡ accepted (writeOn full (firstOf s) (countsOf s) (rangesOf s) x gs r)
-  unfolding refusal passes miscounts exceeds spent writeOn accepted
-  acceptance x gs r q = elim (le-or-lt (s .v) x) [
-    | inl h ↦ large h r q
-    | inr h ↦ small h r q
+  unfolding miscounts exceeds spent writeOn accepted overTaker taker
+  acceptance x gs blank q =
+      let l : 0 < s .t = omega (arith, bounded s ok .t-low) in
+      both-pass (overRange s x) _ _ _ ∙ both-ranges s ok x 0 l ∙ sym (at-accepted x 0 gs l)
+  acceptance x gs (reads i y) q = elim (ℕ-discrete i (s .t)) [
+    | yes e ↦ rw (eq-eqb i (s .t) e, at-spent x i gs e) (none-pass (overRange s x) false false true _ _ (inr (inr refl)) _)
+    | no d ↦
+        let l : i < s .t = lt-of-le-ne (read-most gs i y q) d in
+        rw (ne-eqb i (s .t) d) (both-pass (overRange s x) _ _ _ ∙ both-ranges s ok x i l ∙ sym (at-accepted x i gs l))
   ]
-    where
-      large : s .v ≤ x → (r : Reading) → read full (firstOf s) (countsOf s) (rangesOf s) gs ≡ r →
-          passes (refusal (lastTests s x r)) ≡ accepted (writeOn full (firstOf s) (countsOf s) (rangesOf s) x gs r)
-      large h blank q = rw (le-leb (s .v) x h, at-accepted x 0 gs (omega (arith, bounded s ok .t-low)), le-ltb x (s .v) h)
-      large h (reads i y) q = elim (ℕ-discrete i (s .t)) [
-        | yes e ↦ rw (le-leb (s .v) x h, at-spent x i gs e)
-        | no d ↦ rw (le-leb (s .v) x h, at-accepted x i gs (lt-of-le-ne (read-most gs i y q) d), le-ltb x (s .v) h)
-      ]
-      large h (miscounted i u) q = rw (le-leb (s .v) x h)
-      large h (beyond i) q = rw (le-leb (s .v) x h)
-
-      small : x < s .v → (r : Reading) → read full (firstOf s) (countsOf s) (rangesOf s) gs ≡ r →
-          passes (refusal (lastTests s x r)) ≡ accepted (writeOn full (firstOf s) (countsOf s) (rangesOf s) x gs r)
-      small h blank q = rw (lt-leb (s .v) x h, at-accepted x 0 gs (omega (arith, bounded s ok .t-low)), lt-ltb x (s .v) h)
-      small h (reads i y) q = elim (ℕ-discrete i (s .t)) [
-        | yes e ↦ rw (lt-leb (s .v) x h, eq-eqb i (s .t) e, at-spent x i gs e)
-        | no d ↦ rw (lt-leb (s .v) x h, ne-eqb i (s .t) d, at-accepted x i gs (lt-of-le-ne (read-most gs i y q) d), lt-ltb x (s .v) h)
-      ]
-      small h (miscounted i u) q = rw (lt-leb (s .v) x h)
-      small h (beyond i) q = rw (lt-leb (s .v) x h)
+  acceptance x gs (miscounted i u) q = none-pass (overRange s x) true false false _ _ (inl refl) _
+  acceptance x gs (beyond i) q = none-pass (overRange s x) false true false _ _ (inr (inl refl)) _
 
   -- A write is refused with no number exactly where the rules make it.
   pub refused-not : (x : ℕ) (bs : List ℕ) → passes (writeRefusal s x bs) ≡ accepted (fieldWrite s x bs)

@@ -1,6 +1,6 @@
 -- The calls on lent bytes. A reply is a list of numbers: 0 and the answer's values, or the refusal's number and the values that it carries.
 use Prim.Native.Nat.{ℕ, _-_, _^_}
-use mathlib.Core.Bool.{Bool, true, false, cond, not}
+use mathlib.Core.Bool.{Bool, true, false, cond, not, _&&_}
 use mathlib.Core.List.{List, [], _∷_, _++_}
 use lib.Dec.{leb, eqb}
 use lib.ListN.{getD, take, replicate}
@@ -108,6 +108,21 @@ spent t (reads i x) = eqb i t
 spent t (miscounted i u) = false
 spent t (beyond i) = false
 
+-- 02, §7: "the generation that would take it", by its place: the first for blank cells, the one after what is read for others
+unfoldable pub taker : Reading → ℕ
+taker blank = 0
+taker (reads i x) = i
+taker (miscounted i u) = 0
+taker (beyond i) = 0
+
+-- 01's row "number ≥ v", of the forms that have one v
+unfoldable pub overRange : Shape → ℕ → Bool
+overRange s x = not (eqb (s .form) 2) && leb (getD (s .v) 0 0) x
+
+-- 02, §7, of form 2: not "below the range of the generation that would take it"
+unfoldable pub overTaker : Shape → ℕ → Reading → Bool
+overTaker s x r = eqb (s .form) 2 && leb (getD (rangesOf s) (taker r) 0) x
+
 -- 01, Reading: the generation of a reading; "All-zero cells read as generation 1, number 0"
 unfoldable pub generation : Reading → ℕ
 generation blank = 1
@@ -151,16 +166,17 @@ readRefusal s bytes = let r = fieldRead s bytes in refusal (
 unfoldable pub readReply : Shape → List ℕ → List ℕ
 readReply s bytes = let r = fieldRead s bytes in answer (readRefusal s bytes) (generation r ∷ holds r ∷ left (s .t) r ∷ [])
 
--- the table's rows for write, in its order, with 02's 15, 16: 1, 2, 3, 6, 15, 16, 5
+-- the table's rows for write, in its order, with 02's 15, 16: 1, 2, 3, 6, 15, 16, 5; 02, §7: "for this form 6 is tested after 5"
 unfoldable pub writeRefusal : Shape → ℕ → List ℕ → List ℕ
 writeRefusal s x bytes = let r = fieldRead s bytes in refusal (
     (1 ∷ [], outside s 256) ∷
     (2 ∷ [], misfit 256 (countsOf s)) ∷
     (3 ∷ [], unsound s bytes) ∷
-    (6 ∷ [], leb (s .v) x) ∷
+    (6 ∷ [], overRange s x) ∷
     (15 ∷ generation r ∷ countTold r ∷ [], miscounts r) ∷
     (16 ∷ generation r ∷ [], exceeds r) ∷
-    (5 ∷ [], spent (s .t) r) ∷ [])
+    (5 ∷ [], spent (s .t) r) ∷
+    (6 ∷ [], overTaker s x r) ∷ [])
 
 -- 01, Writing: the generation "written at"
 unfoldable pub madeAt : Writing → ℕ

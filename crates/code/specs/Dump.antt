@@ -8,7 +8,6 @@ use lib.Dec.{leb, ltb, eqb}
 use lib.ListN.{length, getD, take, drop}
 use Rattle.code.specs.declared.Kind.{Kind}
 use Rattle.code.specs.declared.Kind.the-variants.{Old, New}
-use Rattle.code.specs.declared.Record.{Record}
 use Rattle.code.specs.declared.Shape.{Shape}
 use Rattle.code.specs.Shape.{shaped, outside, misfit, countsOf}
 use Rattle.code.specs.Calls.{refusal, answer, leaves, readFields, unsound, readReply}
@@ -64,7 +63,15 @@ abbrev pub headLength : Source → ℕ
 headLength ownLayouts = 4
 headLength (listedLayouts ls) = 2
 
--- "The walk gives serial, m, t, v and the record's cell bytes", these by start and count; the end; or a stop with its refusal and what that carries
+-- "The walk gives serial, m, t, v and the record's cell bytes": the cells are the `count` bytes from `start` on; the layout's number is 0 in an old dump
+pub record Record : Type 0 where
+  pub serial : ℕ
+  pub layout : ℕ
+  pub shape : Shape
+  pub start : ℕ
+  pub count : ℕ
+
+-- a record; the end; or a stop with its refusal and what that carries
 pub data Step : Type 0 where
   taken : Record → Step
   ended : Step
@@ -145,9 +152,9 @@ step kind bytes at = stepOn (opening kind bytes) bytes at
 unfoldable pub cellsOf : List ℕ → Record → List ℕ
 cellsOf bytes r = take (r .count) (drop (r .start) bytes)
 
--- the numbers of a shape
+-- the numbers of a shape up to its first range, which is the only one but in form 2
 abbrev pub shapeNumbers : Shape → List ℕ
-shapeNumbers s = s .form ∷ s .m ∷ s .t ∷ s .v ∷ []
+shapeNumbers s = s .form ∷ s .m ∷ s .t ∷ getD (s .v) 0 0 ∷ []
 
 -- the numbers of a record that the walk gives; in an old dump the layout's number and the form are 0
 unfoldable pub recordNumbers : Record → List ℕ
@@ -192,7 +199,7 @@ walk kind bytes = onward kind bytes (startOf (opening kind bytes))
 -- docs/DECISIONS.md, 35: what a row of a walk has before the reply to reading: of an old dump serial, m, t, v, the start and count of the cells, of a new
 -- one the layout's number and the form too
 unfoldable pub rowNumbers : Kind → Record → List ℕ
-rowNumbers Old r = r .serial ∷ r .shape .m ∷ r .shape .t ∷ r .shape .v ∷ r .start ∷ r .count ∷ []
+rowNumbers Old r = r .serial ∷ r .shape .m ∷ r .shape .t ∷ getD (r .shape .v) 0 0 ∷ r .start ∷ r .count ∷ []
 rowNumbers New r = recordNumbers r
 
 -- the numbers of a row

@@ -2,16 +2,16 @@
 use Prim.Native.Nat.{ℕ, suc}
 use mathlib.Core.Bool.{Bool, true, false, cond}
 use mathlib.Core.List.{List, [], _∷_, _++_}
-use lib.Dec.{ltb, eqb}
-use lib.ListN.{length, drop}
+use lib.Dec.{leb, ltb, eqb}
+use lib.ListN.{length, getD, drop}
 use Rattle.code.specs.declared.Kind.the-variants.{Old, New}
 use Rattle.code.specs.declared.Shape.{Shape}
 use Rattle.code.specs.Lists.{same}
 use Rattle.code.specs.Shape.{outside, misfit, countsOf}
 use Rattle.code.specs.Calls.{refusal, answer, leaves}
 use Rattle.code.specs.Numerals.{numeralsOf}
-use Rattle.code.specs.LayoutList.{Listed, listedNumbers, listedOf, layoutsOf, Layouts, brokenList, layouts, layoutList}
-use Rattle.code.specs.Dump.{recordOf, Source, ownLayouts, listedLayouts, Step, taken, ended, stopped, cellsOf, walk}
+use Rattle.code.specs.LayoutList.{Listed, listedNumbers, unlisted, listedOf, layoutsOf, Layouts, brokenList, layouts, layoutList}
+use Rattle.code.specs.Dump.{recordOf, Source, ownLayouts, listedLayouts, Step, taken, ended, stopped, Opening, barred, entered, opening, cellsOf, walk}
 
 -- what a record says: 01: "serial, m, t, v" and its bytes; 02: "serial, layout number from 0" and its bytes, with the layout's numbers
 pub record Entry : Type 0 where
@@ -22,7 +22,7 @@ pub record Entry : Type 0 where
 
 -- the numbers before n
 unfoldable pub entryHead : Source → Entry → List ℕ
-entryHead ownLayouts e = e .serial ∷ e .shape .m ∷ e .shape .t ∷ e .shape .v ∷ []
+entryHead ownLayouts e = e .serial ∷ e .shape .m ∷ e .shape .t ∷ getD (e .shape .v) 0 0 ∷ []
 entryHead (listedLayouts ls) e = e .serial ∷ e .layout ∷ []
 
 -- "A dump is records up to its end": the bytes of records
@@ -49,6 +49,25 @@ unfoldable pub layoutExportLeaves : Shape → List ℕ → List ℕ
 layoutExportLeaves s out =
     let made = layoutsOf (listedOf s ∷ []) in
     leaves (layoutExportRefusal s out) (made ++ drop (length made) out) out
+
+-- docs/DECISIONS.md, 96: the layout that has a number in the list, with all its ranges; 1 for a number that the list has not
+unfoldable pub listedAs : List Listed → ℕ → List ℕ
+listedAs ls number =
+    let l = getD ls number unlisted in
+    answer (refusal ((1 ∷ [], leb (length ls) number) ∷ [])) (l .form ∷ l .m ∷ l .t ∷ length (l .ranges) ∷ l .ranges)
+
+-- the same entry: a dump that is refused as a whole is refused before; an old one lists nothing
+unfoldable pub listedBehind : Opening → ℕ → List ℕ
+listedBehind (barred k carried) number = k ∷ carried
+listedBehind (entered ownLayouts start) number = 1 ∷ []
+listedBehind (entered (listedLayouts ls) start) number = listedAs ls number
+
+unfoldable pub listedReply : List ℕ → ℕ → List ℕ
+listedReply bytes number = listedBehind (opening New bytes) number
+
+-- the numbers of its struct: the refusal, form, m, t, the count of ranges and sixteen of them
+abbrev pub listedFields : ℕ
+listedFields = 21
 
 -- the records that a walk gives, with their cells
 unfoldable pub entriesOf : List ℕ → List Step → List Entry

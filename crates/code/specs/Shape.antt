@@ -1,42 +1,69 @@
--- What a caller gives of a field, and what the general definitions take of it. There are two forms, one order of bits and t equal ranges.
-use Prim.Native.Nat.{ℕ, _^_, _≤_}
-use mathlib.Core.Bool.{Bool, cond, not, _&&_}
-use mathlib.Core.List.{List}
+-- What a caller gives of a field, and what the general definitions take of it. There are three forms and one order of bits.
+use Prim.Native.Nat.{ℕ, _-_, _^_, _<_, _≤_}
+use mathlib.Core.Path.{_≡_}
+use mathlib.Core.Bool.{Bool, true, cond, not, _&&_}
+use mathlib.Core.List.{List, [], _∷_}
 use lib.Dec.{leb, ltb, eqb}
 use lib.ListN.{getD, replicate}
 use Rattle.code.specs.declared.Shape.{Shape}
+use Rattle.code.specs.declared.Frame.{Frame}
+use Rattle.code.specs.Cells.{listed}
 use Rattle.code.specs.Layout.{grant}
+
+-- a shape as the code hands it on: its ranges stand in an array beside the rest
+abbrev pub framed : Frame → List ℕ → Shape
+framed f v = record { form = f .form; m = f .m; t = f .t; count = f .count; v = v }
+
+-- 01: one v for every generation: a shape with one range
+abbrev pub single : ℕ → ℕ → ℕ → ℕ → Shape
+single form m t v = record { form = form; m = m; t = t; count = 1; v = v ∷ replicate 15 0 }
 
 -- 02, §2: "Form 0 stays for drives in service": document 01's m, t and v as a shape, which the old export takes and the old dump holds
 abbrev pub shaped : ℕ → ℕ → ℕ → Shape
-shaped m t v = record { form = 0; m = m; t = t; v = v }
+shaped m t v = single 0 m t v
 
 -- 01, Dealing: "Generation 1: .. k from 0"; 02, §2: "Add form 1: generation 1 writes k from 1": the least number of places that it writes
 unfoldable pub firstOf : Shape → ℕ
 firstOf s = cond (eqb (s .form) 0) 0 1
 
--- 01, Layout: one v for every generation, where 003 has v_1 .. v_t
+-- 02, §7: "Take a list of t ranges .. with form 2"; the other forms have one v
+unfoldable pub rangesDue : ℕ → ℕ → ℕ
+rangesDue form t = cond (eqb form 2) t 1
+
+-- the ranges that are given
+unfoldable pub given : Shape → List ℕ
+given s = listed (λ i. getD (s .v) i 0) 0 (s .count)
+
+-- 01, Layout: one v for every generation; 02, §7: "conditions b, c and d each with its own v_i", as 003 has v_1 .. v_t
 unfoldable pub rangesOf : Shape → List ℕ
-rangesOf s = replicate (s .t) (s .v)
+rangesOf s = cond (eqb (s .form) 2) (given s) (replicate (s .t) (getD (s .v) 0 0))
 
 -- 01, Cells in bytes: "Wit w is bit 7 − (w mod 8)", the high bit first
 unfoldable pub orderOf : Shape → ℕ
 orderOf s = 0
 
--- "m, cells (wits) in a group: 2 to 4. t, generations: 2 to 16. v, range: 2 to 2^56"; "g, groups offered to a layout: 0 to 256"; 02, §2:
--- "A form above 1 is refusal 1"
-unfoldable pub outside : Shape → ℕ → Bool
-outside s g = not (leb (s .form) 1 && (leb 2 (s .m) && leb (s .m) 4) && (leb 2 (s .t) && leb (s .t) 16) && (leb 2 (s .v) && leb (s .v) (2 ^ 56)) && leb g 256)
+-- "v, range: 2 to 2^56"; 02, §7: "each 2 to 2^56"
+unfoldable pub allRanges : List ℕ → Bool
+allRanges [] = true
+allRanges (v ∷ vs) = (leb 2 v && leb v (2 ^ 56)) && allRanges vs
 
--- the same bounds of the form, m, t and v as facts, for contracts
+-- "m, cells (wits) in a group: 2 to 4. t, generations: 2 to 16"; "g, groups offered to a layout: 0 to 256"; 02, §2: "A form above 1 is refusal 1", which is
+-- one above 2 since §7; 02, §7: "a list not of t ranges is 1"
+unfoldable pub outside : Shape → ℕ → Bool
+outside s g =
+    not (leb (s .form) 2 && (leb 2 (s .m) && leb (s .m) 4) && (leb 2 (s .t) && leb (s .t) 16)
+    && eqb (s .count) (rangesDue (s .form) (s .t)) && allRanges (given s) && leb g 256)
+
+-- the same bounds of the form, m, t and the ranges as facts, for contracts
 pub record Bounds (s : Shape) : Type 0 where
-  pub form-high : s .form ≤ 1
+  pub form-high : s .form ≤ 2
   pub m-low : 2 ≤ s .m
   pub m-high : s .m ≤ 4
   pub t-low : 2 ≤ s .t
   pub t-high : s .t ≤ 16
-  pub v-low : 2 ≤ s .v
-  pub v-high : s .v ≤ 2 ^ 56
+  pub due : s .count ≡ rangesDue (s .form) (s .t)
+  pub v-low : (i : ℕ) → i < s .count → 2 ≤ getD (s .v) i 0
+  pub v-high : (i : ℕ) → i < s .count → getD (s .v) i 0 ≤ 2 ^ 56
 
 -- 01, Layout: "The granted list"
 unfoldable pub granted : Shape → ℕ → List ℕ

@@ -1,21 +1,24 @@
 -- The tests of an export behind its first, for either kind of dump.
 use Prim.Native.Nat.{ℕ, _^_, _≤_, _<_}
 use mathlib.Core.Path.{_≡_, ap, _∙_}
-use mathlib.Core.Bool.{true, false}
+use mathlib.Core.Bool.{Bool, true, false, cond}
 use mathlib.Core.List.{List, [], _∷_, _++_, append-nil}
 use native.Mathlib.Omega.{arith}
-use lib.Dec.{ltb}
-use lib.ListN.{length, drop}
+use lib.Dec.{ltb, eqb}
+use lib.ListN.{length, take, drop}
 use borrow.Author.Tests.{lt-ltb, le-ltb}
 use Rattle.code.specs.declared.Shape.{Shape}
+use Rattle.code.specs.Lists.{Below}
 use Rattle.code.specs.Cells.{sound}
-use Rattle.code.specs.Shape.{orderOf, outside, misfit, granted, countsOf, widthOf}
+use Rattle.code.specs.Shape.{Bounds, rangesDue, given, orderOf, outside, misfit, granted, countsOf, widthOf}
 use Rattle.code.specs.Calls.{refusal, answer, leaves, layoutRefusal}
 use Rattle.code.specs.Numerals.{numeralsOf}
 use Rattle.code.specs.LayoutList.{listedNumbers, listedOf, layoutsOf}
 use Rattle.code.specs.Dump.{recordOf, Exporting}
 use Rattle.code.specs.NewDump.{layoutExportRefusal, layoutExportReply, layoutExportLeaves}
-use Rattle.code.proofs.LayoutCall.{refused-early, passed-early}
+use Rattle.code.proofs.LayoutCall.{given-taken, refused-early, passed-early}
+use Rattle.code.proofs.Records.{numerals-append}
+use Rattle.code.proofs.Exported.{ranges-below}
 use Rattle.code.proofs.ExportCall.{Exports, export-no-layout, export-unsound, export-short, export-stored}
 use Rattle.storing.specs.Put.{Put}
 use Rattle.storing.proofs.Put.{put-pastes}
@@ -48,7 +51,27 @@ front-made s head cells out {after} {n} p h made =
 
 -- the numbers of a layout of the list
 abbrev pub numbersOf : Shape → List ℕ
-numbersOf s = s .form ∷ s .m ∷ s .t ∷ s .v ∷ []
+numbersOf s = s .form ∷ s .m ∷ s .t ∷ given s
+
+-- all of them can be written
+pub numbers-below : (s : Shape) → Bounds s → s .count ≤ length (s .v) →
+    Below (2 ^ 63) (s .form ∷ s .m ∷ s .t ∷ []) × Below (2 ^ 63) (take (s .count) (s .v))
+numbers-below s b h =
+    ((omega (arith, b .form-high), (omega (arith, b .m-high), (omega (arith, b .t-high), tt))), rw (given-taken s h) at (ranges-below s b))
+
+-- a shape within its bounds has no more ranges than places for them
+pub count-few : (s : Shape) → Bounds s → s .count ≤ 16
+unfolding rangesDue
+count-few s b = go (eqb (s .form) 2) (b .due)
+  where
+    go : (two : Bool) → s .count ≡ cond two (s .t) 1 → s .count ≤ 16
+    go true e = omega (arith, b .t-high)
+    go false e = omega arith
+
+-- they are three, and its ranges as they stand in its array
+pub numbers-parts : (s : Shape) → s .count ≤ length (s .v) →
+    numeralsOf (numbersOf s) ≡ numeralsOf (s .form ∷ s .m ∷ s .t ∷ []) ++ numeralsOf (take (s .count) (s .v))
+numbers-parts s h = numerals-append (s .form ∷ s .m ∷ s .t ∷ []) (given s) ∙ rw (given-taken s h)
 
 -- the export of a layout, test by test
 module _ (s : Shape) (out : List ℕ) where

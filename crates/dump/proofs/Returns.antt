@@ -5,7 +5,6 @@ use mathlib.Core.List.{List, [], _∷_, _++_}
 use native.Mathlib.Omega.{arith}
 use lib.ListN.{length, getD, take, drop}
 use Rattle.code.specs.declared.Kind.{Kind}
-use Rattle.code.specs.declared.Record.{Record}
 use Rattle.code.specs.Calls.{answer, readReply}
 use Rattle.code.specs.Numerals.{numeralsOf}
 use Rattle.code.specs.Dump.{recordOf, Exporting, exportRefusal, exportReply, exportLeaves, Source, entered, opening, cellsOf, recordNumbers, outcome, stepValues, stepReply}

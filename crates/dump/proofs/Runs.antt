@@ -4,7 +4,6 @@ use mathlib.Core.Path.{_≡_, refl, sym, ap, _∙_}
 use mathlib.Core.List.{List, [], _∷_}
 use native.Mathlib.Omega.{arith}
 use lib.ListN.{length, getD}
-use Rattle.code.specs.declared.Record as Declared
 use Rattle.code.specs.declared.Kind.{Kind}
 use Rattle.code.specs.Dump as Code
 use Rattle.code.specs.Dump.{rowLength}
@@ -12,11 +11,12 @@ use Rattle.code.proofs.Walk.{walk-ended, walk-stopped, onward-taken}
 use Rattle.code.proofs.Closing.{walk-few, walk-onward}
 use Rattle.reading.specs.declared.Reading.{Reading}
 use Rattle.dump.specs.Answers.{haltNumber, haltCarries, stepOf, walkedOf}
+use Rattle.dump.specs.declared.Record as Declared
 use Rattle.dump.specs.declared.Halt.{Halt}
 use Rattle.dump.specs.declared.Step.{Step}
 use Rattle.dump.specs.declared.Step.the-variants.{Record, End, Stop}
 use Rattle.dump.specs.declared.Walked.{Walked}
-use Rattle.dump.proofs.Walking.{gives-record, gives-end, gives-stop}
+use Rattle.dump.proofs.Walking.{gives-record, record-ends, gives-end, gives-stop}
 
 -- steps as their promise allows them, each at the place behind the record before, to the end or a stop
 pub data Stepping (kind : Kind) (bytes : List ℕ) : ℕ → List Step → Type 0 where
@@ -41,7 +41,8 @@ steps-onward {kind} {bytes} {at} (at-stop halt e) =
     rw (walk-stopped kind bytes (length bytes - at) at (haltNumber halt) (haltCarries halt) (gives-stop kind bytes at {s = Stop halt} e refl))
 steps-onward {kind} {bytes} {at} (onwards r reading e rest) =
     let told = gives-record kind bytes at {s = Record r reading} e refl in
-    rw (onward-taken kind bytes at r (told .0), told .1, steps-onward rest)
+    let last = record-ends kind bytes at {s = Record r reading} e refl in
+    rw (onward-taken kind bytes at (told .0) (told .1), told .2, told .3, last, steps-onward rest)
 
 -- Stepping from where the records begin gives exactly the walk.
 pub steps-walk : {kind : Kind} {bytes : List ℕ} {rs : List Step} → Stepping kind bytes (Code.startOf (Code.opening kind bytes)) rs →

@@ -1,21 +1,22 @@
 -- The promises of steps, walks and exports leave no choice: two answers that one of them allows are equal, and so is the output afterwards.
 use Prim.Native.Nat.{ℕ}
 use mathlib.Core.Path.{_≡_, refl, sym, ap, _∙_}
-use mathlib.Core.List.{List}
+use mathlib.Core.List.{List, _++_}
 use native.Mathlib.Omega.{arith}
-use lib.ListN.{length}
+use lib.ListN.{length, getD, drop}
 use Rattle.code.specs.declared.Shape.{Shape}
 use Rattle.code.specs.declared.Kind.the-variants.{Old, New}
-use Rattle.code.specs.Dump.{recordNumbers, openReply, stepReply, oldExport, newExport, exportReply, exportLeaves, walkReply, walkLeaves}
-use Rattle.code.specs.NewDump.{layoutExportReply, layoutExportLeaves}
+use Rattle.code.specs.Dump.{openReply, stepReply, oldExport, newExport, exportReply, exportLeaves, walkReply, walkLeaves}
+use Rattle.code.specs.NewDump.{layoutExportReply, layoutExportLeaves, listedReply, listedFields}
+use Rattle.code.specs.Calls.{filled}
 use Rattle.code.proofs.Tests.{clash}
 use Rattle.storing.specs.Answers.{madeOf}
 use Rattle.storing.specs.declared.Made.{Made}
 use Rattle.storing.proofs.Unique.{made-alike}
-use Rattle.code.proofs.Steps.{numbers-same}
 use Rattle.reading.specs.Answers.{readingOf}
 use Rattle.reading.proofs.Unique.{same-reading}
-use Rattle.dump.specs.Answers.{haltOf, openedReply, stepOf, walkedOf}
+use Rattle.dump.specs.Answers.{haltOf, openedReply, toldNumbers, stepOf, walkedOf}
+use Rattle.dump.specs.declared.Record as Declared
 use Rattle.dump.specs.declared.Halt.{Halt}
 use Rattle.dump.specs.declared.Halt.the-variants.{Malformed, Oversize}
 use Rattle.dump.specs.declared.Opened.{Opened}
@@ -23,6 +24,8 @@ use Rattle.dump.specs.declared.Opened.the-variants.{Records, Barred}
 use Rattle.dump.specs.declared.Step.{Step}
 use Rattle.dump.specs.declared.Step.the-variants.{Record, End, Stop}
 use Rattle.dump.specs.declared.Walked.{Walked}
+use Rattle.dump.specs.declared.listed.ListedShape.{ListedShape}
+use Rattle.dump.specs.Listed.{listedOf}
 
 same-halt : (h h′ : Halt) → haltOf h ≡ haltOf h′ → h ≡ h′
 same-halt (Malformed offset) (Malformed offset′) q =
@@ -32,10 +35,24 @@ same-halt (Malformed offset) Oversize q = absurd (omega (arith, ap length q))
 same-halt Oversize (Malformed offset) q = absurd (omega (arith, ap length q))
 same-halt Oversize Oversize q = refl
 
+-- a record is fixed by its numbers
+told-same : (r p : Declared.Record) (xs ys : List ℕ) → toldNumbers r ++ xs ≡ toldNumbers p ++ ys → (r ≡ p) × (xs ≡ ys)
+told-same r p xs ys e =
+    let a : r .serial ≡ p .serial = cc in
+    let b : r .layout ≡ p .layout = cc in
+    let c : r .brief .form ≡ p .brief .form = cc in
+    let d : r .brief .m ≡ p .brief .m = cc in
+    let f : r .brief .t ≡ p .brief .t = cc in
+    let g : r .brief .v ≡ p .brief .v = cc in
+    let h : r .start ≡ p .start = cc in
+    let k : r .count ≡ p .count = cc in (
+      λ i. record { serial = a i; layout = b i; brief = record { form = c i; m = d i; t = f i; v = g i }; start = h i; count = k i },
+      cc,
+    )
+
 pub same-step : (r r′ : Step) → stepOf r ≡ stepOf r′ → r ≡ r′
-unfolding recordNumbers
 same-step (Record r reading) (Record r′ reading′) q =
-    let both = numbers-same r r′ (readingOf reading) (readingOf reading′) (cc) in
+    let both = told-same r r′ (readingOf reading) (readingOf reading′) (cc) in
     rw (both .0, same-reading reading reading′ (both .1))
 same-step (Record r reading) End q = clash (cc)
 same-step (Record r reading) (Stop (Malformed offset)) q = clash (cc)
@@ -67,6 +84,15 @@ same-opened (Barred h) (Barred h′) q =
 
 pub unique-open-new : (bytes : List ℕ) (r r′ : Opened) → openedReply r ≡ openReply New bytes → openedReply r′ ≡ openReply New bytes → r ≡ r′
 unique-open-new bytes r r′ p q = same-opened r r′ (p ∙ sym q)
+
+-- the struct whose fields are given
+abbrev listedWith : List ℕ → ListedShape
+listedWith xs =
+    record { refusal = getD xs 0 0; shape = record { form = getD xs 1 0; m = getD xs 2 0; t = getD xs 3 0; count = getD xs 4 0; v = drop 5 xs } }
+
+pub unique-listed-shape : (bytes : List ℕ) (number : ℕ) (r r′ : ListedShape) →
+    listedOf r ≡ filled listedFields (listedReply bytes number) → listedOf r′ ≡ filled listedFields (listedReply bytes number) → r ≡ r′
+unique-listed-shape bytes number r r′ p q = ap listedWith (p ∙ sym q)
 
 pub unique-step : (bytes : List ℕ) (at : ℕ) (r r′ : Step) → stepOf r ≡ stepReply Old bytes at → stepOf r′ ≡ stepReply Old bytes at → r ≡ r′
 unique-step bytes at r r′ p q = same-step r r′ (p ∙ sym q)

@@ -1,18 +1,17 @@
 -- What the step at a place tells of the walk there, and what the walk into rows knows: begun, a record more, stopped.
-use Prim.Native.Nat.{ℕ, _+_, _≤_, _<_, zero, suc, _*_, _-_, _/_}
+use Prim.Native.Nat.{ℕ, _+_, _≤_, _<_, zero, suc, _*_, _-_, _^_, _/_}
 use mathlib.Core.Path.{_≡_, ap, refl, sym, _∙_}
 use mathlib.Core.List.{List, [], _∷_, _++_, append-assoc, append-nil}
 use native.Mathlib.Omega.{arith}
 use native.Mathlib.Nat.{sub-zero}
 use native.Mathlib.Numerals.{add-one}
-use lib.ListN.{length, take}
+use lib.ListN.{length, getD, take}
 use lib.Seq.{length-take-le}
 use Rattle.code.specs.declared.Kind.{Kind}
 use Rattle.code.specs.declared.Kind.the-variants.{Old, New}
-use Rattle.code.specs.declared.Record as Declared
 use Rattle.code.specs.Calls.{readFields}
 use Rattle.code.specs.Dump as Code
-use Rattle.code.specs.Dump.{taken, ended, stopped, barred, entered, behindList, openingAs, opening, openedBy, openReply, startOf, step, outcome, stepValues, stepReply, recordNumbers, walkFrom, rowNumbers, rowLength, rowSteps}
+use Rattle.code.specs.Dump.{taken, ended, stopped, barred, entered, behindList, openingAs, opening, listedMany, openedBy, openReply, startOf, step, outcome, stepValues, stepReply, recordNumbers, walkFrom, rowNumbers, rowLength, rowSteps}
 use Rattle.code.specs.Dump.{rowsOf, closing, walkOn, walkReply, walkLeaves}
 use Rattle.code.specs.Numerals.{readNumbers}
 use Rattle.code.proofs.LayoutCall.{read-fields-length}
@@ -30,7 +29,8 @@ use Rattle.records.specs.declared.list.LayoutList.{LayoutList}
 use Rattle.records.specs.declared.list.LayoutList.the-variants.{Whole, Broken}
 use Rattle.storing.specs.Put.{Put}
 use Rattle.storing.proofs.Put.{put-none, put-then, put-length, put-pastes}
-use Rattle.dump.specs.Answers.{dumpMost, haltNumber, haltCarries, openedOf, openedReply, Opens, Ready, stepOf, haltedBy}
+use Rattle.dump.specs.Answers.{dumpMost, haltNumber, haltCarries, openedOf, openedReply, Opens, Ready, toldNumbers, rowTold, stepOf, haltedBy}
+use Rattle.dump.specs.declared.Record as Declared
 use Rattle.dump.specs.declared.Halt.{Halt}
 use Rattle.dump.specs.declared.Halt.the-variants.{Malformed, Oversize}
 use Rattle.dump.specs.declared.Opened.{Opened}
@@ -109,6 +109,12 @@ first-within bytes {start} {count} e = go (opening New bytes) refl (open-barring
     go (barred k carried) q b e = let z : 0 ≡ k = cc in absurd (omega (arith, b .0))
     go (entered source first) q b e = let z : start ≡ first = cc in omega (arith, entered-within New bytes source first q)
 
+-- no more layouts are listed than there are places
+pub places-few : (kind : Kind) (bytes places : List ℕ) → length places < 2 ^ 64 → listedMany (sourceOf kind bytes places) < 2 ^ 64
+unfolding sourceOf
+places-few Old bytes places h = omega arith
+places-few New bytes places h = omega (arith, layouts-many bytes places)
+
 -- in a dump that is opened a step stands at the end or at a record
 module _ {kind : Kind} {bytes places : List ℕ} (ready : Ready kind bytes places) (at : ℕ) where
   pub ready-ended : length bytes ≤ at → step kind bytes at ≡ ended
@@ -126,14 +132,29 @@ module _ (kind : Kind) (bytes : List ℕ) (at : ℕ) {s : Step} (gives : stepOf 
   gives-stop {halt} e = told-stopped kind bytes at (haltNumber halt) (haltCarries halt) (halting halt) (rw e at gives)
 
   module _ {r : Declared.Record} {reading : Reading} (e : s ≡ Record r reading) where
-    pub gives-record : (step kind bytes at ≡ taken r) × (outcome bytes r ≡ readingOf reading)
-    gives-record = told-record kind bytes at r (readingOf reading) (rw e at gives)
+    -- the record of the walk there, which has these numbers
+    pub gives-record : (q : Code.Record) × (step kind bytes at ≡ taken q) × (recordNumbers q ≡ toldNumbers r) × (outcome bytes q ≡ readingOf reading)
+    gives-record = told-record kind bytes at (toldNumbers r) (readingOf reading) refl (rw e at gives)
 
-    -- it ends further on, within the dump
+    -- it ends where they say, further on and within the dump
+    pub record-ends : gives-record .0 .start + gives-record .0 .count ≡ r .start + r .count
+    unfolding recordNumbers
+    record-ends = let n = gives-record .2 in omega (arith, ap (λ l. getD l 6 0) n, ap (λ l. getD l 7 0) n)
+
+    pub record-serial : gives-record .0 .serial ≡ r .serial
+    unfolding recordNumbers
+    record-serial = ap (λ l. getD l 0 0) (gives-record .2)
+
     pub record-further : (at < r .start + r .count) × (r .start + r .count ≤ dumpMost)
     record-further =
-        let f = step-forward kind bytes at r (gives-record .0) in
-        (f .1, omega arith)
+        let f = step-forward kind bytes at (gives-record .0) (gives-record .1) in
+        (omega (arith, f .1, record-ends), omega (arith, record-ends))
+
+-- its row is that of the walk
+row-told : (kind : Kind) (q : Code.Record) (r : Declared.Record) → recordNumbers q ≡ toldNumbers r → rowNumbers kind q ≡ rowTold kind r
+unfolding rowNumbers recordNumbers
+row-told Old q r n = ap (λ l. getD l 0 0 ∷ getD l 3 0 ∷ getD l 4 0 ∷ getD l 5 0 ∷ getD l 6 0 ∷ getD l 7 0 ∷ []) n
+row-told New q r n = n
 
 -- no row is made of a dump that is refused as a whole
 no-rows : (kind : Kind) (bytes : List ℕ) (at k : ℕ) (carried : List ℕ) → opening kind bytes ≡ barred k carried → (fuel : ℕ) →
@@ -143,8 +164,7 @@ no-rows kind bytes at k carried e zero = refl
 no-rows kind bytes at k carried e (suc fuel) = rw (walk-stopped kind bytes fuel at k carried (step-barred kind bytes at k carried e))
 
 -- the numbers of a row are as many as it has
-pub row-many : (kind : Kind) (r : Declared.Record) (reading : List ℕ) → length (rowNumbers kind r ++ readFields reading) ≡ rowLength kind
-unfolding rowNumbers recordNumbers
+pub row-many : (kind : Kind) (r : Declared.Record) (reading : List ℕ) → length (rowTold kind r ++ readFields reading) ≡ rowLength kind
 row-many Old r reading = omega (arith, read-fields-length reading)
 row-many New r reading = omega (arith, read-fields-length reading)
 
@@ -230,20 +250,26 @@ module _ {kind : Kind} {bytes : List ℕ} {at : ℕ} {before rows : List ℕ} {n
 
     module _ {s : Step} (gives : stepOf s ≡ stepReply kind bytes next) where
       pub walking-next : {r : Declared.Record} {reading : Reading} {rows′ : List ℕ} {place′ : ℕ} → s ≡ Record r reading →
-          Put rows rows′ place (rowNumbers kind r ++ readFields (readingOf reading)) place′ → Walking kind bytes at before rows′ (r .start + r .count) (done + 1) place′
+          Put rows rows′ place (rowTold kind r ++ readFields (readingOf reading)) place′ → Walking kind bytes at before rows′ (r .start + r .count) (done + 1) place′
       unfolding rowsOf closing
       walking-next {r} {reading} {rows′} {place′} e p =
           let told = gives-record kind bytes next gives e in
-          let turn = walk-taken kind bytes (length before / rowLength kind - suc done) next r (told .0) in
+          let q : Code.Record = told .0 in
+          let turn = walk-taken kind bytes (length before / rowLength kind - suc done) next q (told .1) in
+          let row = row-told kind q r (told .2) in
+          let last = record-ends kind bytes next gives e in
           let ends : place′ ≡ place + rowLength kind = p .ends ∙ ap (λ n. place + n) (row-many kind r (readingOf reading)) in
+          let closed : closing at 0 (rowSteps kind bytes at before) ≡
+          closing (q .start + q .count) (suc done) (walkFrom (length before / rowLength kind - suc done) kind bytes (q .start + q .count)) =
+          rw (more, turn) at (w .closes) in
           record {
             placed = ends ∙ rw (w .placed) (next-row kind done);
             room = omega arith;
             same = put-length p ∙ w .same;
-            filling = w .filling ++ (rowNumbers kind r ++ readFields (readingOf reading));
+            filling = w .filling ++ (rowTold kind r ++ readFields (readingOf reading));
             stored = put-then (w .stored) p;
-            made = rw (add-one done, append-assoc) (rw (more, turn, told .1) at (w .made));
-            closes = rw (add-one done) (rw (more, turn) at (w .closes));
+            made = rw (add-one done, append-assoc) (rw (more, turn, told .3, row, last) at (w .made));
+            closes = rw (add-one done, ← last) closed;
           }
 
       pub walking-end : {reply : List ℕ} → s ≡ End → reply ≡ 0 ∷ 0 ∷ done ∷ next ∷ 1 ∷ [] → Walks kind bytes at before reply rows

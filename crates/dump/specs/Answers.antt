@@ -4,10 +4,11 @@ use mathlib.Core.Path.{_≡_}
 use mathlib.Core.List.{List, [], _∷_, _++_}
 use lib.ListN.{length, getD, take}
 use Rattle.code.specs.declared.Kind.{Kind}
+use Rattle.code.specs.declared.Kind.the-variants.{Old, New}
 use Rattle.code.specs.Dump as Code
-use Rattle.code.specs.Dump.{recordNumbers}
 use Rattle.reading.specs.Answers.{readingOf}
 use Rattle.records.specs.Source.{sourceOf}
+use Rattle.records.specs.Head.{headRecord}
 use Rattle.dump.specs.declared.Halt.{Halt}
 use Rattle.dump.specs.declared.Halt.the-variants.{Malformed, Oversize}
 use Rattle.dump.specs.declared.Opened.{Opened}
@@ -17,6 +18,7 @@ use Rattle.dump.specs.declared.Located.the-variants.{Record as RecordThe
 use Rattle.dump.specs.declared.Step.{Step}
 use Rattle.dump.specs.declared.Step.the-variants.{Record, End, Stop}
 use Rattle.dump.specs.declared.Walked.{Walked}
+use Rattle.dump.specs.declared.Record as Declared
 
 -- "A dump: 0 to 65,536 bytes"
 abbrev pub dumpMost : ℕ
@@ -40,13 +42,13 @@ openedOf kind bytes places (Records start count) = Code.entered (sourceOf kind b
 openedOf kind bytes places (Barred halt) = Code.barred (haltNumber halt) (haltCarries halt)
 
 -- at most so many layouts are kept
-abbrev pub Kept : ℕ → Opened → Type 0
-Kept most (Records start count) = count ≤ most
-Kept most (Barred halt) = Unit {0}
+abbrev pub Few : ℕ → Opened → Type 0
+Few most (Records start count) = count ≤ most
+Few most (Barred halt) = Unit {0}
 
 pub record Opens (kind : Kind) (bytes places : List ℕ) (r : Opened) : Type 0 where
   pub opens : openedOf kind bytes places r ≡ Code.opening kind bytes
-  pub few : Kept 64 r
+  pub few : Few 64 r
   pub long : length places ≡ 64
 
 -- the records of a dump can be walked, its layouts being kept by their places
@@ -60,13 +62,22 @@ openedReply (Records start count) = 0 ∷ count ∷ start ∷ []
 openedReply (Barred halt) = haltOf halt
 
 -- what stands at a place, as a step of the walk
-abbrev pub locatedOf : Located → Code.Step
-locatedOf (RecordThere r) = Code.taken r
-locatedOf EndThere = Code.ended
-locatedOf (StopThere halt) = Code.stopped (haltNumber halt) (haltCarries halt)
+abbrev pub locatedOf : Code.Source → Located → Code.Step
+locatedOf source (RecordThere h) = Code.taken (headRecord source h)
+locatedOf source EndThere = Code.ended
+locatedOf source (StopThere halt) = Code.stopped (haltNumber halt) (haltCarries halt)
+
+-- the numbers of a record, as `recordNumbers` has them
+abbrev pub toldNumbers : Declared.Record → List ℕ
+toldNumbers r = r .serial ∷ r .layout ∷ r .brief .form ∷ r .brief .m ∷ r .brief .t ∷ r .brief .v ∷ r .start ∷ r .count ∷ []
+
+-- those of its row before the reading, as `rowNumbers` has them
+abbrev pub rowTold : Kind → Declared.Record → List ℕ
+rowTold Old r = r .serial ∷ r .brief .m ∷ r .brief .t ∷ r .brief .v ∷ r .start ∷ r .count ∷ []
+rowTold New r = toldNumbers r
 
 abbrev pub stepOf : Step → List ℕ
-stepOf (Record r outcome) = 0 ∷ (recordNumbers r ++ readingOf outcome)
+stepOf (Record r outcome) = 0 ∷ (toldNumbers r ++ readingOf outcome)
 stepOf End = 0 ∷ []
 stepOf (Stop halt) = haltOf halt
 

@@ -1,11 +1,12 @@
 // Documents 01 and 02, export: the record of a field for either kind of dump, and a layout for the list of a new one.
+use code::Frame;
 use code::Shape;
 use storing::Made;
 ghost use mathlib.Core.Path.{_≡_};
 ghost use Prim.Native.Nat.{_^_, _≤_};
 ghost use lib.ListN.{length};
 ghost use Rattle.code.specs.Lists.{Below};
-ghost use Rattle.code.specs.Shape.{Bounds};
+ghost use Rattle.code.specs.Shape.{framed, Bounds};
 ghost use Rattle.code.specs.Dump.{Exporting, oldExport, newExport, exportReply, exportLeaves};
 ghost use Rattle.code.specs.NewDump.{layoutExportReply, layoutExportLeaves};
 ghost use Rattle.storing.specs.Answers.{madeOf};
@@ -15,16 +16,16 @@ ghost use Rattle.dump.specs.Exported.{Exported};
 const SERIAL_END: u64 = 0x8000_0000_0000_0000;
 
 // Stores a field's record, whose numbers before n are its head, at the front of `out`. The serial and the layout's number are tested before.
-fn export_cells(shape: Shape, head: &[u64], cells: &[u8], out: &mut [u8]) -> Made
-    requires { ⌜ (Bounds shape → Below (2 ^ 63) (now head)) × (length (now head) ≤ 4) ⌝ }
-    ensures { λ r. ⌜ Exported shape (now (head .entry)) (now (cells .entry)) (now (out .entry)) (madeOf r) (now (out .exit)) ⌝ }
+fn export_cells(f: Frame, v: &[u64; 16], head: &[u64], cells: &[u8], out: &mut [u8]) -> Made
+    requires { ⌜ (Bounds (framed f (now v)) → Below (2 ^ 63) (now head)) × (length (now head) ≤ 4) ⌝ }
+    ensures { λ r. ⌜ Exported (framed f (now (v .entry))) (now (head .entry)) (now (cells .entry)) (now (out .entry)) (madeOf r) (now (out .exit)) ⌝ }
 {
     let mut h = [0u64; 16];
-    let refusal = layout::lay_into(&mut h, shape, 256);
+    let refusal = layout::lay_into(&mut h, f, v, 256);
     if refusal != 0 {
         return Made::Refused(refusal);
     }
-    if !cells::is_sound(cells, layout::order(shape), shape.m as usize, h[0] as usize) {
+    if !cells::is_sound(cells, layout::order(f), f.m as usize, h[0] as usize) {
         return Made::Refused(3);
     }
     if out.len() < records::record_length(head, cells.len()) {
@@ -41,9 +42,16 @@ pub fn export_old(serial: u64, m: u64, t: u64, v: u64, cells: &[u8], out: &mut [
     if SERIAL_END <= serial {
         return Made::Refused(10);
     }
-    let shape = Shape { form: 0, m, t, v };
+    let f = Frame {
+        form: 0,
+        m,
+        t,
+        count: 1,
+    };
+    let mut ranges = [0u64; 16];
+    ranges[0] = v;
     let head = [serial, m, t, v];
-    export_cells(shape, &head, cells, out)
+    export_cells(f, &ranges, &head, cells, out)
 }
 
 // Stores the record of a field for a new dump, whose layout has a number in its list, at the front of `out`.
@@ -58,7 +66,7 @@ pub fn export_record(serial: u64, layout: u64, shape: Shape, cells: &[u8], out: 
         return Made::Refused(1);
     }
     let head = [serial, layout];
-    export_cells(shape, &head, cells, out)
+    export_cells(layout::frame(shape), &shape.v, &head, cells, out)
 }
 
 // Stores a layout for the list of a new dump at the front of `out`.
@@ -67,13 +75,16 @@ pub fn export_layout(shape: Shape, out: &mut [u8]) -> Made
     ensures { λ r. ⌜ now (out .exit) ≡ layoutExportLeaves shape (now (out .entry)) ⌝ }
 {
     let mut h = [0u64; 16];
-    let refusal = layout::lay_into(&mut h, shape, 256);
+    let refusal = layout::lay_into(&mut h, layout::frame(shape), &shape.v, 256);
     if refusal != 0 {
         return Made::Refused(refusal);
     }
-    let numbers = [shape.form, shape.m, shape.t, shape.v];
-    if out.len() < numerals::numbers_length(&numbers) {
+    let numbers = [shape.form, shape.m, shape.t];
+    let v = shape.v;
+    let count = shape.count as usize;
+    if out.len() < numerals::numbers_length(&numbers) + numerals::numbers_length(&v[0..count]) {
         return Made::Refused(9);
     }
-    Made::Stored(numerals::write_numbers(out, 0, &numbers))
+    let behind = numerals::write_numbers(out, 0, &numbers);
+    Made::Stored(numerals::write_numbers(out, behind, &v[0..count]))
 }

@@ -1,26 +1,29 @@
 // Documents 01 and 02, dumps of both kinds: one step of the walk, and the walk.
 pub mod export;
+pub mod kept;
+pub mod listed;
 
+use code::Frame;
 use code::Kind;
-use code::Record;
-use code::Shape;
-use layout::Plan;
+use kept::Kept;
 use reading::ReadFields;
 use reading::Reading;
 use records::Head;
+use records::HeadThere;
 use records::list::LayoutList;
 ghost use mathlib.Core.Path.{_≡_};
-ghost use mathlib.Core.Bool.{true};
 ghost use mathlib.Core.List.{[], _∷_, _++_};
 ghost use Prim.Native.Nat.{_+_, _≤_};
-ghost use lib.ListN.{length, take, replicate};
+ghost use lib.ListN.{length, take};
 ghost use Rattle.code.specs.declared.Kind.the-variants.{Old, New};
 ghost use Rattle.code.specs.Calls.{readFields};
-ghost use Rattle.code.specs.Dump.{openReply, step, taken, stepValues, stepReply, rowNumbers, rowLength, walkReply, walkLeaves};
+ghost use Rattle.code.specs.Dump.{openReply, step, taken, stepValues, stepReply, rowLength, walkReply, walkLeaves};
 ghost use Rattle.storing.specs.Put.{Put};
-ghost use Rattle.layout.specs.Plan.{Planned};
+ghost use Rattle.records.specs.Source.{sourceOf};
+ghost use Rattle.records.specs.Head.{headRecord};
 ghost use Rattle.reading.specs.Answers.{readFieldsOf, readingOf};
-ghost use Rattle.dump.specs.Answers.{openedReply, locatedOf, stepOf, Opens, Ready, walkedOf, haltedBy};
+ghost use Rattle.dump.specs.Kept.{Keeps};
+ghost use Rattle.dump.specs.Answers.{openedReply, locatedOf, toldNumbers, rowTold, stepOf, Opens, Ready, walkedOf, haltedBy};
 
 // The most bytes of a dump.
 pub const DUMP_MOST: usize = 65536;
@@ -79,6 +82,24 @@ pub fn open_new(dump: &[u8]) -> Opened
     open(dump, Kind::New, &mut places)
 }
 
+// What a record's layout is like, its ranges up to the first, which is the only one but in form 2.
+#[repr(C)]
+pub struct Brief {
+    pub form: u64,
+    pub m: u64,
+    pub t: u64,
+    pub v: u64,
+}
+
+// A record: its cells are the `count` bytes from `start` on; the layout's number is 0 in an old dump.
+pub struct Record {
+    pub serial: u64,
+    pub layout: u64,
+    pub brief: Brief,
+    pub start: usize,
+    pub count: usize,
+}
+
 pub enum Step {
     // The record's cells are a part of the dump: `records::part` gives them.
     Record { record: Record, outcome: Reading },
@@ -86,23 +107,42 @@ pub enum Step {
     Stop(Halt),
 }
 
-// What stands at a place: a record that is not read yet, the end, or why the walk stops.
+// What stands at a place: the head of a record, the end, or why the walk stops.
 pub enum Located {
-    Record(Record),
+    Record(Head),
     End,
     Stop(Halt),
 }
 
 pub fn locate(dump: &[u8], kind: Kind, places: &[u16], at: usize) -> Located
     requires { ⌜ Ready kind (now dump) (now places) ⌝ }
-    ensures { λ r. ⌜ locatedOf r ≡ step kind (now (dump .entry)) at ⌝ }
+    ensures { λ r. ⌜ locatedOf (sourceOf kind (now (dump .entry)) (now (places .entry))) r ≡ step kind (now (dump .entry)) at ⌝ }
 {
     if dump.len() <= at {
         return Located::End;
     }
     match records::read_head(dump, kind, places, at) {
-        Head::Whole(record) => Located::Record(record),
-        Head::Malformed { offset } => Located::Stop(Halt::Malformed { offset }),
+        HeadThere::Whole(head) => Located::Record(head),
+        HeadThere::Malformed { offset } => Located::Stop(Halt::Malformed { offset }),
+    }
+}
+
+// The record of a head whose layout is known.
+fn record_of(head: Head, frame: Frame, v: u64) -> Record
+    ensures { λ r. ⌜ toldNumbers r ≡ head .serial ∷ head .said .layout ∷ frame .form ∷ frame .m ∷ frame .t ∷ v ∷ head .start ∷ head .count ∷ [] ⌝ }
+{
+    let brief = Brief {
+        form: frame.form,
+        m: frame.m,
+        t: frame.t,
+        v,
+    };
+    Record {
+        serial: head.serial,
+        layout: head.said.layout,
+        brief,
+        start: head.start,
+        count: head.count,
     }
 }
 
@@ -112,9 +152,11 @@ fn step_in(dump: &[u8], kind: Kind, places: &[u16], at: usize) -> Step
     ensures { λ r. ⌜ stepOf r ≡ stepReply kind (now (dump .entry)) at ⌝ }
 {
     match locate(dump, kind, places, at) {
-        Located::Record(record) => {
-            let cells = records::part(dump, record.start, record.count);
-            let outcome = reading::read(record.shape, cells);
+        Located::Record(head) => {
+            let shape = records::shape_said(dump, kind, places, head.said);
+            let outcome = reading::read(shape, records::part(dump, head.start, head.count));
+            let v = shape.v;
+            let record = record_of(head, layout::frame(shape), v[0]);
             Step::Record { record, outcome }
         }
         Located::End => Step::End,
@@ -133,77 +175,50 @@ pub fn step_at(dump: &[u8], kind: Kind, at: usize) -> Step
     }
 }
 
-// What is kept before the first record, with no counts: the refusal of the shape of zeros.
-pub fn keep_none() -> Plan
-    ensures { λ r. ⌜ Planned r (replicate 16 0) ⌝ }
-{
-    let shape = Shape {
-        form: 0,
-        m: 0,
-        t: 0,
-        v: 0,
-    };
-    Plan { shape, refusal: 1 }
-}
-
-fn same_shape(a: Shape, b: Shape) -> bool
-    ensures { λ r. ⌜ (r ≡ true → a ≡ b) ⌝ }
-{
-    if a.v != b.v {
-        return false;
-    }
-    if a.t != b.t {
-        return false;
-    }
-    if a.m != b.m {
-        return false;
-    }
-    a.form == b.form
-}
-
-// The plan of a shape, which is the one kept where a record repeats the shape of the record before.
-fn renew(h: &mut [u64; 16], kept: Plan, shape: Shape) -> Plan
-    requires { ⌜ Planned kept (now h) ⌝ }
-    ensures { λ r. ⌜ (r .shape ≡ shape) × Planned r (now (h .exit)) ⌝ }
-{
-    if same_shape(kept.shape, shape) {
-        return kept;
-    }
-    *h = [0u64; 16];
-    let refusal = layout::lay_into(h, shape, 256);
-    Plan { shape, refusal }
-}
-
 pub struct Stepped {
     pub step: Step,
-    pub kept: Plan,
+    pub kept: Kept,
 }
 
 // The step that gives a record.
-fn step_record(dump: &[u8], h: &mut [u64; 16], kept: Plan, record: Record) -> Stepped
-    requires { ⌜ Planned kept (now h) ⌝ }
-    ensures { λ r. ⌜ (stepOf (r .step) ≡ stepValues (now (dump .entry)) (taken «record»)) × Planned (r .kept) (now (h .exit)) ⌝ }
+fn step_record(
+    dump: &[u8],
+    kind: Kind,
+    places: &[u16],
+    v: &mut [u64; 16],
+    h: &mut [u64; 16],
+    kept: Kept,
+    head: Head,
+) -> Stepped
+    requires { ⌜ Keeps (sourceOf kind (now dump) (now places)) kept (now v) (now h) ⌝ }
+    ensures { λ r.
+        let source = sourceOf kind (now (dump .entry)) (now (places .entry)) in
+        ⌜ (stepOf (r .step) ≡ stepValues (now (dump .entry)) (taken (headRecord source head))) × Keeps source (r .kept) (now (v .exit)) (now (h .exit)) ⌝ }
 {
-    let plan = renew(h, kept, record.shape);
-    let outcome = reading::read_by(plan, h, records::part(dump, record.start, record.count));
+    let next = kept::renew(dump, kind, places, v, h, kept, head.said);
+    let plan = next.plan;
+    let outcome = reading::read_by(plan, h, v, records::part(dump, head.start, head.count));
+    let record = record_of(head, plan.frame, v[0]);
     let step = Step::Record { record, outcome };
-    Stepped { step, kept: plan }
+    Stepped { step, kept: next }
 }
 
-// The step at a place of a dump that is opened, with what is kept of the steps before; its counts stand in h.
+// The step at a place of a dump that is opened, with what is kept of the steps before; its ranges stand in v, its counts in h.
 pub fn step_kept(
     dump: &[u8],
     kind: Kind,
     places: &[u16],
     at: usize,
+    v: &mut [u64; 16],
     h: &mut [u64; 16],
-    kept: Plan,
+    kept: Kept,
 ) -> Stepped
-    requires { ⌜ Ready kind (now dump) (now places) × Planned kept (now h) ⌝ }
-    ensures { λ r. ⌜ (stepOf (r .step) ≡ stepReply kind (now (dump .entry)) at) × Planned (r .kept) (now (h .exit)) ⌝ }
+    requires { ⌜ Ready kind (now dump) (now places) × Keeps (sourceOf kind (now dump) (now places)) kept (now v) (now h) ⌝ }
+    ensures { λ r. ⌜ stepOf (r .step) ≡ stepReply kind (now (dump .entry)) at ⌝ }
+    ensures { λ r. ⌜ Keeps (sourceOf kind (now (dump .entry)) (now (places .entry))) (r .kept) (now (v .exit)) (now (h .exit)) ⌝ }
 {
     match locate(dump, kind, places, at) {
-        Located::Record(record) => step_record(dump, h, kept, record),
+        Located::Record(head) => step_record(dump, kind, places, v, h, kept, head),
         Located::End => {
             let step = Step::End;
             Stepped { step, kept }
@@ -280,9 +295,9 @@ struct Row {
 
 // The rows of both kinds, with the numbers of the reading.
 fn old_row(record: Record, told: ReadFields) -> Row
-    ensures { λ r. ⌜ take 11 (r .numbers) ≡ rowNumbers Old «record» ++ readFieldsOf told ⌝ }
+    ensures { λ r. ⌜ take 11 (r .numbers) ≡ rowTold Old «record» ++ readFieldsOf told ⌝ }
 {
-    let s = record.shape;
+    let s = record.brief;
     let start = record.start as u64;
     let count = record.count as u64;
     let numbers = [
@@ -304,9 +319,9 @@ fn old_row(record: Record, told: ReadFields) -> Row
 }
 
 fn new_row(record: Record, told: ReadFields) -> Row
-    ensures { λ r. ⌜ r .numbers ≡ rowNumbers New «record» ++ readFieldsOf told ⌝ }
+    ensures { λ r. ⌜ r .numbers ≡ rowTold New «record» ++ readFieldsOf told ⌝ }
 {
-    let s = record.shape;
+    let s = record.brief;
     let start = record.start as u64;
     let count = record.count as u64;
     let numbers = [
@@ -328,7 +343,7 @@ fn new_row(record: Record, told: ReadFields) -> Row
 }
 
 fn make_row(kind: Kind, record: Record, outcome: Reading) -> Row
-    ensures { λ r. ⌜ take (rowLength kind) (r .numbers) ≡ rowNumbers kind «record» ++ readFields (readingOf outcome) ⌝ }
+    ensures { λ r. ⌜ take (rowLength kind) (r .numbers) ≡ rowTold kind «record» ++ readFields (readingOf outcome) ⌝ }
 {
     let told = reading::flat(outcome);
     match kind {
@@ -358,13 +373,14 @@ fn fill_rows(dump: &[u8], kind: Kind, places: &[u16], at: usize, rows: &mut [u64
     ensures { λ r. ⌜ now (rows .exit) ≡ walkLeaves kind (now (dump .entry)) at (now (rows .entry)) ⌝ }
 {
     let width = row_length(kind);
+    let mut v = [0u64; 16];
     let mut h = [0u64; 16];
-    let mut kept = keep_none();
+    let mut kept = kept::keep_none();
     let mut next = at;
     let mut done: u64 = 0;
     let mut place = 0;
     while width <= rows.len() - place {
-        let s = step_kept(dump, kind, places, next, &mut h, kept);
+        let s = step_kept(dump, kind, places, next, &mut v, &mut h, kept);
         let step = s.step;
         kept = s.kept;
         match step {

@@ -6,22 +6,22 @@ use native.Mathlib.Omega.{arith}
 use lib.ListN.{length, replicate}
 use borrow.Author.Tests.{lt-ltb, ne-eqb}
 use Rattle.code.specs.declared.Kind.{Kind}
-use Rattle.code.specs.declared.Record.{Record}
 use Rattle.code.specs.Calls.{filled, readFields}
 use Rattle.code.specs.Dump.{Step, taken, ended, stopped, step, recordNumbers, stepValues, stepReply}
 use Rattle.code.proofs.Steps.{Refusing, step-refusing}
 use Rattle.code.proofs.Walk.{step-forward}
-use Rattle.dump.specs.Answers.{haltOf}
+use Rattle.dump.specs.Answers.{haltOf, toldNumbers}
+use Rattle.dump.specs.declared.Record.{Record}
 use Rattle.dump.specs.declared.Halt.{Halt}
 use Rattle.dump.specs.declared.Halt.the-variants.{Malformed, Oversize}
 use Rattle.gorvlime.specs.Fields.{offsetFields, newStepFields, cellsEnd, newFoundFields}
 use Rattle.gorvlime.specs.declared.c.NewStepAnswer.{NewStepAnswer}
 
 pub found-record : (r : Record) (reading fields : List ℕ) → fields ≡ readFields reading →
-    0 ∷ 0 ∷ 1 ∷ r .serial ∷ r .layout ∷ r .shape .form ∷ r .shape .m ∷ r .shape .t ∷ r .shape .v ∷ r .start ∷ r .count ∷ (r .start + r .count) ∷ fields
-    ≡ newFoundFields (0 ∷ (recordNumbers r ++ reading))
-unfolding newFoundFields recordNumbers cellsEnd
-found-record r reading fields q = rw (lt-ltb 2 (length (0 ∷ (recordNumbers r ++ reading))) (omega arith), q)
+    0 ∷ 0 ∷ 1 ∷ r .serial ∷ r .layout ∷ r .brief .form ∷ r .brief .m ∷ r .brief .t ∷ r .brief .v ∷ r .start ∷ r .count ∷ (r .start + r .count) ∷ fields
+    ≡ newFoundFields (0 ∷ (toldNumbers r ++ reading))
+unfolding newFoundFields cellsEnd
+found-record r reading fields q = rw (lt-ltb 2 (length (0 ∷ (toldNumbers r ++ reading))) (omega arith), q)
 
 pub found-none : (k : ℕ) → k ∷ 0 ∷ replicate 15 0 ≡ newFoundFields (k ∷ [])
 unfolding newFoundFields filled

@@ -1,6 +1,7 @@
 -- The promises of the calls for C leave no choice: two answers that one of them allows are equal, and so is what they leave in lent memory. Those of
--- `gorvlime_layout` and of the walks are `unique` of layout/proofs/Unique, `unique-walk` and `unique-walk-new` of dump/proofs/Unique; those of the calls by
--- their Rattle names stand there, in reading/proofs/Unique, writing/proofs/Unique, moves/proofs/Unique and hex/proofs/Unique, but for `part`.
+-- `gorvlime_layout`, of `gorvlime_listed_shape` and of the walks are `unique` of layout/proofs/Unique, `unique-listed-shape`, `unique-walk` and
+-- `unique-walk-new` of dump/proofs/Unique; those of the calls by their Rattle names stand there, in reading/proofs/Unique, writing/proofs/Unique,
+-- moves/proofs/Unique and hex/proofs/Unique, but for `part`.
 use Prim.Native.Nat.{ℕ}
 use mathlib.Core.Path.{_≡_, sym, ap, _∙_}
 use mathlib.Core.List.{List}
@@ -66,7 +67,7 @@ newStepWith xs =
       records = getD xs 2 0;
       serial = getD xs 3 0;
       layout = getD xs 4 0;
-      shape = record { form = getD xs 5 0; m = getD xs 6 0; t = getD xs 7 0; v = getD xs 8 0 };
+      brief = record { form = getD xs 5 0; m = getD xs 6 0; t = getD xs 7 0; v = getD xs 8 0 };
       start = getD xs 9 0;
       length = getD xs 10 0;
       next = getD xs 11 0;

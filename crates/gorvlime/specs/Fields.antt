@@ -26,7 +26,7 @@ offsetFields n reply = filled n (cond (eqb (getD reply 0 0) 0) (0 ∷ 0 ∷ drop
 
 abbrev pub newStepFields : NewStepAnswer → List ℕ
 newStepFields r =
-    r .refusal ∷ r .offset ∷ r .records ∷ r .serial ∷ r .layout ∷ r .shape .form ∷ r .shape .m ∷ r .shape .t ∷ r .shape .v ∷ r .start ∷ r .length ∷ r .next
+    r .refusal ∷ r .offset ∷ r .records ∷ r .serial ∷ r .layout ∷ r .brief .form ∷ r .brief .m ∷ r .brief .t ∷ r .brief .v ∷ r .start ∷ r .length ∷ r .next
     ∷ r .refused ∷ r .generation ∷ r .number ∷ r .left ∷ r .unerased ∷ []
 
 abbrev pub stepFields : StepAnswer → List ℕ
@@ -38,7 +38,7 @@ stepFields r =
 unfoldable pub cellsEnd : List ℕ → ℕ
 cellsEnd reply = getD reply 7 0 + getD reply 8 0
 
--- the seventeen fields of the reply to a step of a new dump: a record's are 0, 0, 1, its serial, its layout's number, form, m, t, v, where its cells start and how
+-- the seventeen fields of the reply to a step of a new dump: a record's are 0, 0, 1, its serial, its layout's number, form, m, t, its first v, where its cells start and how
 -- many they are, where they end, and its reading in five
 unfoldable pub newFoundFields : List ℕ → List ℕ
 newFoundFields reply =

@@ -1,5 +1,6 @@
 // The public calls for C: the answers of this crate's other calls in structs of numbers, 0 in the fields that an answer lacks.
 use code::Shape;
+use dump::Brief;
 use dump::Halt;
 ghost use mathlib.Core.Path.{_≡_};
 ghost use mathlib.Core.List.{_∷_, _++_};
@@ -12,9 +13,10 @@ ghost use Prim.Native.Nat.{_^_, _<_};
 ghost use lib.ListN.{take, drop, replicate};
 ghost use Rattle.code.specs.declared.Kind.the-variants.{Old, New};
 ghost use Rattle.code.specs.Dump.{oldExport, newExport, exportReply, exportLeaves, openReply, stepReply, walkReply, walkLeaves};
-ghost use Rattle.code.specs.NewDump.{layoutExportReply, layoutExportLeaves, toNewReply, toNewLeaves, toOldReply, toOldLeaves};
+ghost use Rattle.code.specs.NewDump.{layoutExportReply, layoutExportLeaves, listedReply, listedFields, toNewReply, toNewLeaves, toOldReply, toOldLeaves};
 ghost use Rattle.code.specs.Hex.{hexExportReply, hexExportLeaves, hexImportReply, hexImportLeaves};
 ghost use Rattle.dump.specs.Answers.{haltOf, openedReply, stepOf, walkedOf};
+ghost use Rattle.dump.specs.Listed.{listedOf};
 ghost use Rattle.moves.specs.Answers.{movedOf};
 ghost use Rattle.storing.specs.Answers.{madeOf};
 ghost use Rattle.gorvlime.specs.Fields.{madeFields, openFields, movedFields, offsetFields, stepFields, newStepFields};
@@ -112,7 +114,7 @@ pub struct NewStepAnswer {
     pub records: u64,
     pub serial: u64,
     pub layout: u64,
-    pub shape: Shape,
+    pub brief: Brief,
     pub start: u64,
     pub length: u64,
     pub next: u64,
@@ -127,7 +129,7 @@ pub struct NewStepAnswer {
 fn no_record(refusal: u64, offset: u64) -> NewStepAnswer
     ensures { λ r. ⌜ newStepFields r ≡ refusal ∷ offset ∷ replicate 15 0 ⌝ }
 {
-    let shape = Shape {
+    let brief = Brief {
         form: 0,
         m: 0,
         t: 0,
@@ -139,7 +141,7 @@ fn no_record(refusal: u64, offset: u64) -> NewStepAnswer
         records: 0,
         serial: 0,
         layout: 0,
-        shape,
+        brief,
         start: 0,
         length: 0,
         next: 0,
@@ -167,14 +169,14 @@ fn flat_step(a: dump::Step) -> NewStepAnswer
     match a {
         dump::Step::Record { record, outcome } => {
             let o = reading::flat(outcome);
-            let shape = record.shape;
+            let brief = record.brief;
             NewStepAnswer {
                 refusal: 0,
                 offset: 0,
                 records: 1,
                 serial: record.serial,
                 layout: record.layout,
-                shape,
+                brief,
                 start: record.start as u64,
                 length: record.count as u64,
                 next: (record.start + record.count) as u64,
@@ -194,7 +196,7 @@ fn flat_step(a: dump::Step) -> NewStepAnswer
 fn without_layout(a: NewStepAnswer) -> StepAnswer
     ensures { λ r. ⌜ stepFields r ≡ take 4 (newStepFields a) ++ drop 6 (newStepFields a) ⌝ }
 {
-    let s = a.shape;
+    let s = a.brief;
     StepAnswer {
         refusal: a.refusal,
         offset: a.offset,
@@ -263,6 +265,13 @@ pub extern "C" fn gorvlime_open_new(bytes: &[u8]) -> OpenAnswer
     ensures { λ r. ⌜ openFields r ≡ offsetFields 4 (openReply New (now (bytes .entry))) ⌝ }
 {
     flat_opened(crate::open_new(bytes))
+}
+
+#[no_mangle]
+pub extern "C" fn gorvlime_listed_shape(bytes: &[u8], number: u64) -> dump::listed::ListedShape
+    ensures { λ r. ⌜ listedOf r ≡ filled listedFields (listedReply (now (bytes .entry)) number) ⌝ }
+{
+    crate::listed_shape(bytes, number)
 }
 
 #[no_mangle]

@@ -6,6 +6,7 @@ use code::Shape;
 use dump::Opened;
 use dump::Step;
 use dump::Walked;
+use dump::listed::ListedShape;
 use layout::Layout;
 use many::Many;
 use moves::Moved;
@@ -19,12 +20,13 @@ ghost use Rattle.code.specs.Calls.{filled, layoutFields, layoutReply, readReply
 ghost use Rattle.code.specs.Many.{manyReply, manyLeaves};
 ghost use Rattle.code.specs.declared.Kind.the-variants.{Old, New};
 ghost use Rattle.code.specs.Dump.{oldExport, newExport, exportReply, exportLeaves, openReply, stepReply, walkReply, walkLeaves};
-ghost use Rattle.code.specs.NewDump.{layoutExportReply, layoutExportLeaves, toNewReply, toNewLeaves, toOldReply, toOldLeaves};
+ghost use Rattle.code.specs.NewDump.{layoutExportReply, layoutExportLeaves, listedReply, listedFields, toNewReply, toNewLeaves, toOldReply, toOldLeaves};
 ghost use Rattle.code.specs.Hex.{hexExportReply, hexExportLeaves, hexImportReply, hexImportLeaves};
 ghost use Rattle.reading.specs.Answers.{readingOf};
 ghost use Rattle.writing.specs.Answers.{writingOf};
 ghost use Rattle.many.specs.Answers.{manyOf};
 ghost use Rattle.dump.specs.Answers.{openedReply, stepOf, walkedOf};
+ghost use Rattle.dump.specs.Listed.{listedOf};
 ghost use Rattle.moves.specs.Answers.{movedOf};
 ghost use Rattle.storing.specs.Answers.{madeOf};
 
@@ -94,6 +96,13 @@ pub fn open_new(bytes: &[u8]) -> Opened
     ensures { λ r. ⌜ openedReply r ≡ openReply New (now (bytes .entry)) ⌝ }
 {
     dump::open_new(bytes)
+}
+
+// The layout that has a number in the list of a new dump, with all its ranges.
+pub fn listed_shape(bytes: &[u8], number: u64) -> ListedShape
+    ensures { λ r. ⌜ listedOf r ≡ filled listedFields (listedReply (now (bytes .entry)) number) ⌝ }
+{
+    dump::listed::listed_shape(bytes, number)
 }
 
 // The record at a place of a new dump.

@@ -39,7 +39,7 @@ module _ (s : Shape) (g : ℕ) (r : Layout) (promise : r .refusal ∷ r .h ≡ f
   pub granted-where-one-fits : Within s g → (hs : List ℕ) → Meets (s .m) (firstOf s) hs (rangesOf s) → getD hs 0 0 ≤ g → r .refusal ≡ 0
   unfolding refusal misfit granted layoutRefusal filled layoutReply answer
   granted-where-one-fits w hs y f =
-      let l = grant-least g (s .m) (firstOf s) hs (rangesOf s) (omega (arith, w .bounds .t-low, ranges-length s)) y .1 in
+      let l = grant-least g (s .m) (firstOf s) hs (rangesOf s) (omega (arith, w .bounds .t-low, ranges-length s (w .bounds))) y .1 in
       let q : layoutRefusal s g ≡ [] = rw (within-outside s g w, le-ltb g (getD (granted s g) 0 0) (le-trans l f)) in
       let p = rw q at promise in
       cc

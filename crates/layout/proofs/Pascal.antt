@@ -110,13 +110,13 @@ module _ {b low d all term more : ℕ} (C : Climbed b low d all term more) where
   -- where d places above low are enough, or are not but one more is
   module _ {need cut : ℕ} (A : Asked b low need cut) where
     under-cut : all + more < cut → (all + more) * b < need
-    under-cut h = omega (arith, A .cut-least, mul-le-mul-right {m = suc (all + more)} {n = cut} b h)
+    under-cut h = omega (arith, A .cuts .least, mul-le-mul-right {m = suc (all + more)} {n = cut} b h)
 
     pub may-grow : all + more < cut → (0 < b) × (low ≤ 255) × ((all + more) * b < cap)
     may-grow h = (A .values, A .within, omega (arith, A .most, under-cut h))
 
     at-cut : cut ≤ all + more → need ≤ (all + more) * b
-    at-cut h = omega (arith, A .cut-enough, mul-le-mul-right b h)
+    at-cut h = omega (arith, A .cuts .enough, mul-le-mul-right b h)
 
     pub short-turn : all + more < cut → Short b low need (d + 1)
     short-turn h =

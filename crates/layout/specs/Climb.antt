@@ -23,14 +23,18 @@ pub record Climbed (b low d all term more : ℕ) : Type 0 where
   pub far : d < all
   pub fits : all + more < 2 ^ 64
 
--- what a climb is asked for: need patterns above low, of b values for a written place; cut is the least number whose product with b is at least need
+-- cut is the least number whose product with b is at least need
+pub record Cut (b need cut : ℕ) : Type 0 where
+  pub enough : need ≤ cut * b
+  pub least : cut * b < need + b
+
+-- what a climb is asked for: need patterns above low, of b values for a written place
 pub record Asked (b low need cut : ℕ) : Type 0 where
   pub values : 0 < b
   pub within : low ≤ 255
   pub some : 2 ≤ need
   pub most : need ≤ cap
-  pub cut-enough : need ≤ cut * b
-  pub cut-least : cut * b < need + b
+  pub cuts : Cut b need cut
 
 -- one place fewer than d is not enough
 abbrev pub Short : ℕ → ℕ → ℕ → ℕ → Type 0

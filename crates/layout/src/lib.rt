@@ -1,14 +1,17 @@
 // Document 01, "Layout": the granted list, the last count found first, each from the one after it.
+use code::Frame;
 use code::Shape;
 ghost use mathlib.Core.Path.{_≡_};
-ghost use mathlib.Core.Bool.{false};
-ghost use mathlib.Core.List.{_∷_};
-ghost use Prim.Native.Nat.{_+_, _*_, _-_, _^_, _<_, _≤_};
-ghost use lib.ListN.{replicate};
-ghost use Rattle.code.specs.Shape.{firstOf, orderOf, outside};
+ghost use mathlib.Core.Bool.{false, _&&_};
+ghost use mathlib.Core.List.{List, _∷_};
+ghost use Prim.Native.Nat.{ℕ, _+_, _*_, _-_, _^_, _<_, _≤_};
+ghost use lib.Dec.{leb};
+ghost use lib.ListN.{getD, replicate};
+ghost use Rattle.code.specs.Shape.{framed, firstOf, rangesDue, rangesOf, orderOf, allRanges, outside, Bounds};
+ghost use Rattle.code.specs.Cells.{listed};
 ghost use Rattle.code.specs.Calls.{filled, layoutFields, layoutReply};
 ghost use Rattle.counting.specs.Cap.{cap};
-ghost use Rattle.layout.specs.Climb.{held, Least, Climbed, Asked, Short};
+ghost use Rattle.layout.specs.Climb.{held, Least, Climbed, Cut, Asked, Short};
 
 // The largest range.
 const V_MAX: u64 = 0x0100_0000_0000_0000;
@@ -20,24 +23,47 @@ pub struct Layout {
     pub h: [u64; 16],
 }
 
-// Whose layout with g = 256 is worked out, and its refusal. Its counts stand in an array beside it, which is lent and not copied.
+// Whose layout with g = 256 is worked out, and its refusal. Its ranges and its counts stand in arrays beside it, which are lent and not copied.
 pub struct Plan {
-    pub shape: Shape,
+    pub frame: Frame,
     pub refusal: u64,
 }
 
-// The least number of places that generation 1 writes.
-pub fn first(s: Shape) -> u64
-    ensures { λ r. ⌜ (r ≡ firstOf s) × (r ≤ 1) ⌝ }
+// A shape but for its ranges.
+pub fn frame(s: Shape) -> Frame
+    ensures { λ r. ⌜ framed r (s .v) ≡ s ⌝ }
 {
-    if s.form == 0 { 0 } else { 1 }
+    Frame {
+        form: s.form,
+        m: s.m,
+        t: s.t,
+        count: s.count,
+    }
+}
+
+// The least number of places that generation 1 writes.
+pub fn first(f: Frame) -> u64
+    ensures { λ r. ⌜ ((v : List ℕ) → r ≡ firstOf (framed f v)) × (r ≤ 1) ⌝ }
+{
+    if f.form == 0 { 0 } else { 1 }
 }
 
 // The order of the bits in a byte.
-pub fn order(s: Shape) -> u64
-    ensures { λ r. ⌜ r ≡ orderOf s ⌝ }
+pub fn order(f: Frame) -> u64
+    ensures { λ r. ⌜ ((v : List ℕ) → r ≡ orderOf (framed f v)) ⌝ }
 {
     0
+}
+
+// The range of the generation at place i.
+pub fn range_at(f: Frame, v: &[u64; 16], i: usize) -> u64
+    requires { ⌜ (Bounds (framed f (now v))) × (i < f .t) ⌝ }
+    ensures { λ r. ⌜ (r ≡ getD (rangesOf (framed f (now (v .entry)))) i 0) × (2 ≤ r) × (r ≤ 2 ^ 56) ⌝ }
+{
+    if f.form == 2 {
+        return v[i];
+    }
+    v[0]
 }
 
 // 2^m − 1
@@ -69,7 +95,7 @@ fn last_count(e: u64, v: u64) -> u64
 // The least number whose product with b is at least need.
 fn least_factor(b: u64, need: u64) -> u64
     requires { ⌜ (0 < b) × (0 < need) × (need ≤ cap) ⌝ }
-    ensures { λ r. ⌜ (need ≤ r * b) × (r * b < need + b) ⌝ }
+    ensures { λ r. ⌜ Cut b need r ⌝ }
 {
     (need - 1) / b + 1
 }
@@ -149,32 +175,53 @@ fn refuse(h: &mut [u64; 16]) -> u64
     2
 }
 
-// The layout within the bounds.
-fn grant(h: &mut [u64; 16], s: Shape, g: u64) -> u64
-    requires { ⌜ (2 ≤ s .m) × (s .m ≤ 4) × (2 ≤ s .t) × (s .t ≤ 16) × (2 ≤ s .v) × (s .v < cap) × (g ≤ 256) ⌝ }
-    requires { ⌜ (outside s g ≡ false) × (now h ≡ replicate 16 0) ⌝ }
-    ensures { λ r. ⌜ (r ∷ now (h .exit)) ≡ filled layoutFields (layoutReply s g) ⌝ }
+// What a climb is to reach, and the cut for it.
+struct Goal {
+    need: u64,
+    cut: u64,
+}
+
+// The goal of a later generation of the range v: the pattern with no written place holds no number there, so one more than v is needed. It is the goal
+// of the generation behind it where the ranges are equal, so that they take one division together.
+fn goal_of(b: u64, v: u64, behind: Goal) -> Goal
+    requires { ⌜ (0 < b) × (v < cap) × (Cut b (behind .need) (behind .cut)) ⌝ }
+    ensures { λ r. ⌜ (r .need ≡ v + 1) × (Cut b (r .need) (r .cut)) ⌝ }
 {
-    let v = s.v;
-    let e = all_ones(s.m);
-    let mut low = last_count(e, v);
+    let need = v + 1;
+    if need == behind.need {
+        return behind;
+    }
+    Goal {
+        need,
+        cut: least_factor(b, need),
+    }
+}
+
+// The layout within the bounds.
+fn grant(h: &mut [u64; 16], f: Frame, v: &[u64; 16], g: u64) -> u64
+    requires { ⌜ (Bounds (framed f (now v))) × (g ≤ 256) ⌝ }
+    requires { ⌜ (outside (framed f (now v)) g ≡ false) × (now h ≡ replicate 16 0) ⌝ }
+    ensures { λ r. ⌜ (r ∷ now (h .exit)) ≡ filled layoutFields (layoutReply (framed f (now (v .entry))) g) ⌝ }
+{
+    let e = all_ones(f.m);
+    let mut i = f.t as usize - 1;
+    let mut low = last_count(e, range_at(f, v, i));
     if g <= low {
         return refuse(h);
     }
-    let mut i = s.t as usize - 1;
     h[i] = low;
-    // From generation 2 on the pattern with no written place holds no number, so one more than v is needed.
-    let need = v + 1;
-    let cut = least_factor(e - 1, need);
+    // Behind the last generation nothing is needed but the pattern with no written place.
+    let mut goal = Goal { need: 1, cut: 1 };
     while 1 < i {
-        low = climb(e - 1, low, need, cut);
+        goal = goal_of(e - 1, range_at(f, v, i - 1), goal);
+        low = climb(e - 1, low, goal.need, goal.cut);
         if g <= low {
             return refuse(h);
         }
         i -= 1;
         h[i] = low;
     }
-    let opening = v + first(s);
+    let opening = range_at(f, v, 0) + first(f);
     let x = climb(e, low, opening, least_factor(e, opening));
     if g < x {
         return refuse(h);
@@ -183,25 +230,56 @@ fn grant(h: &mut [u64; 16], s: Shape, g: u64) -> u64
     0
 }
 
-fn outside(s: Shape, g: u64) -> bool
-    ensures { λ r. ⌜ r ≡ outside s g ⌝ }
+// How many ranges a shape has.
+fn ranges_due(f: Frame) -> u64
+    ensures { λ r. ⌜ r ≡ rangesDue (f .form) (f .t) ⌝ }
 {
-    !((s.form <= 1)
-        & ((2 <= s.m) & (s.m <= 4))
-        & ((2 <= s.t) & (s.t <= 16))
-        & ((2 <= s.v) & (s.v <= V_MAX))
-        & (g <= 256))
+    if f.form == 2 { f.t } else { 1 }
+}
+
+// A range within its bounds.
+fn is_range(v: u64) -> bool
+    ensures { λ r. ⌜ r ≡ leb 2 v && leb v (2 ^ 56) ⌝ }
+{
+    (2 <= v) & (v <= V_MAX)
+}
+
+// The ranges behind the first are within their bounds.
+fn later_ranges(v: &[u64; 16], count: usize) -> bool
+    requires { ⌜ (0 < count) × (count ≤ 16) ⌝ }
+    ensures { λ r. ⌜ r ≡ allRanges (listed (λ i. getD (now (v .entry)) i 0) 1 (count - 1)) ⌝ }
+{
+    let mut i = 1;
+    while i < count {
+        if !is_range(v[i]) {
+            return false;
+        }
+        i += 1;
+    }
+    true
+}
+
+fn outside(f: Frame, v: &[u64; 16], g: u64) -> bool
+    ensures { λ r. ⌜ r ≡ outside (framed f (now (v .entry))) g ⌝ }
+{
+    if !((f.form <= 2)
+        & ((2 <= f.m) & (f.m <= 4))
+        & ((2 <= f.t) & (f.t <= 16))
+        & (f.count == ranges_due(f))) {
+        return true;
+    }
+    !(is_range(v[0]) & later_ranges(v, f.count as usize) & (g <= 256))
 }
 
 // The refusal of a shape in g groups, 0 where its layout is granted; the counts go into h, which is lent as zeros.
-pub fn lay_into(h: &mut [u64; 16], s: Shape, g: u64) -> u64
+pub fn lay_into(h: &mut [u64; 16], f: Frame, v: &[u64; 16], g: u64) -> u64
     requires { ⌜ now h ≡ replicate 16 0 ⌝ }
-    ensures { λ r. ⌜ (r ∷ now (h .exit)) ≡ filled layoutFields (layoutReply s g) ⌝ }
+    ensures { λ r. ⌜ (r ∷ now (h .exit)) ≡ filled layoutFields (layoutReply (framed f (now (v .entry))) g) ⌝ }
 {
-    if outside(s, g) {
+    if outside(f, v, g) {
         return 1;
     }
-    grant(h, s, g)
+    grant(h, f, v, g)
 }
 
 // The layout of a shape in g groups, or why there is none.
@@ -209,6 +287,6 @@ pub fn lay_out(s: Shape, g: u64) -> Layout
     ensures { λ r. ⌜ (r .refusal ∷ r .h) ≡ filled layoutFields (layoutReply s g) ⌝ }
 {
     let mut h = [0u64; 16];
-    let refusal = lay_into(&mut h, s, g);
+    let refusal = lay_into(&mut h, frame(s), &s.v, g);
     Layout { refusal, h }
 }

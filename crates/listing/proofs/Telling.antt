@@ -1,6 +1,6 @@
 -- What each step makes of the text of a listing.
 use Prim.Native.Nat.{ℕ, _+_, _-_, _≤_, _<_}
-use mathlib.Core.Path.{_≡_, refl, _∙_}
+use mathlib.Core.Path.{_≡_, refl, sym, _∙_}
 use mathlib.Core.Bool.{false, cond}
 use mathlib.Core.List.{List, [], _∷_, _++_, append-nil, append-assoc}
 use native.Mathlib.Omega.{arith}
@@ -8,9 +8,8 @@ use native.Mathlib.Numerals.{add-one}
 use lib.ListN.{length, getD, take, drop}
 use lib.Seq.{take-at}
 use Rattle.code.specs.declared.Kind.{Kind}
-use Rattle.code.specs.declared.Record as Declared
 use borrow.Author.Tests.{ne-eqb}
-use Rattle.code.specs.Dump.{cellsOf, outcome, stepReply, recordLine, lastLine, lines, textFrom}
+use Rattle.code.specs.Dump.{Source, entered, opening, cellsOf, outcome, stepReply, recordLine, lastLine, lines, textFrom}
 use Rattle.code.proofs.Tests.{clash, same-test}
 use Rattle.code.proofs.ReadCall.{read-refusing}
 use Rattle.code.proofs.Walk.{walk-ended, walk-stopped, onward-taken}
@@ -21,12 +20,15 @@ use Rattle.storing.proofs.Put.{put-none, put-then, put-length, put-pastes}
 use Rattle.text.specs.Within.{PutWithin, closingLine}
 use Rattle.text.proofs.Laws.{wider}
 use Rattle.dump.specs.Answers.{haltNumber, haltCarries, stepOf}
+use Rattle.dump.specs.Kept.{Keeps}
+use Rattle.dump.specs.declared.kept.Kept.{Kept}
+use Rattle.dump.specs.declared.Record as Declared
 use Rattle.dump.specs.declared.Halt.{Halt}
 use Rattle.reading.specs.declared.Refusal.{Refusal}
 use Rattle.reading.specs.declared.Refusal.the-variants.{Plain, Miscounted, Beyond}
 use Rattle.dump.specs.declared.Step.{Step}
 use Rattle.dump.specs.declared.Step.the-variants.{Record, End, Stop}
-use Rattle.dump.proofs.Walking.{gives-record, gives-end, gives-stop, record-further}
+use Rattle.dump.proofs.Walking.{gives-record, record-ends, record-serial, gives-end, gives-stop, record-further}
 use Rattle.listing.specs.Listing.{linesMost, Refusing, haltLines, textLeft, Standing, GoesOn, Closed, LinesTold, Fills}
 use Rattle.listing.specs.declared.Listing.{Listing}
 use Rattle.listing.specs.declared.Told.{Told}
@@ -50,11 +52,13 @@ module _ (kind : Kind) (bytes : List ℕ) (at : ℕ) {s : Step} (gives : stepOf 
     unfolding lines
     record-text count =
         let told = gives-record kind bytes at gives e in
-        rw (onward-taken kind bytes at r (told .0), told .1, add-one count)
+        rw (onward-taken kind bytes at (told .0) (told .1), told .3, record-serial kind bytes at gives e, record-ends kind bytes at gives e, add-one count)
 
     pub record-refusing : Refusing (readingOf reading)
     unfolding outcome
-    record-refusing = rw (← gives-record kind bytes at gives e .1) (read-refusing (r .shape) (cellsOf bytes r))
+    record-refusing =
+        let told = gives-record kind bytes at gives e in
+        rw (← told .3) (read-refusing (told .0 .shape) (cellsOf bytes (told .0)))
 
   end-text : (count : ℕ) → s ≡ End → textFrom kind bytes at count ≡ lastLine count
   unfolding lines
@@ -98,6 +102,24 @@ module _ {kind : Kind} {bytes : List ℕ} {l : Listing} {before after : List ℕ
     pub tells-stop : {halt : Halt} → s ≡ Stop halt → Closed (r .listing) →
         PutWithin linesMost before after at (haltLines (l .count) halt) (r .end) → LinesTold kind bytes l before after at r
     tells-stop {halt} e c p = closes (haltLines (l .count) halt) (stop-text kind bytes (l .next) gives (l .count) e) c p
+
+-- the layout that is kept is one of the opened dump
+pub record Keeping (kind : Kind) (bytes : List ℕ) (kept : Kept) (v h : List ℕ) : Type 0 where
+  pub source : Source
+  pub start : ℕ
+  pub opens : opening kind bytes ≡ entered source start
+  pub keeps : Keeps source kept v h
+
+module _ {kind : Kind} {bytes : List ℕ} {kept : Kept} {v h : List ℕ} {source : Source} {start : ℕ} (e : opening kind bytes ≡ entered source start) where
+  pub keeping : Keeps source kept v h → Keeping kind bytes kept v h
+  keeping k = record { source = source; start = start; opens = e; keeps = k }
+
+  -- a dump opens one way
+  pub keeping-as : Keeping kind bytes kept v h → Keeps source kept v h
+  keeping-as k =
+      let q : entered (k .source) (k .start) ≡ entered source start = sym (k .opens) ∙ e in
+      let same : k .source ≡ source = cc in
+      rw same at (k .keeps)
 
 -- lines one after the other fill the front of the output
 pub record Filling (kind : Kind) (bytes : List ℕ) (start : Listing) (before after : List ℕ) (s : Listing) (end : ℕ) : Type 0 where

@@ -124,11 +124,12 @@ pub fn fill(dump: &[u8], kind: Kind, places: &[u16], start: Listing, out: &mut [
     ensures { λ r. ⌜ Fills kind (now (dump .entry)) start (now (out .exit)) r ⌝ }
 {
     let mut s = start;
+    let mut v = [0u64; 16];
     let mut h = [0u64; 16];
-    let mut kept = dump::keep_none();
+    let mut kept = dump::kept::keep_none();
     let mut end = 0;
     while LINES_MOST <= out.len() - end {
-        let stepped = dump::step_kept(dump, kind, places, s.next, &mut h, kept);
+        let stepped = dump::step_kept(dump, kind, places, s.next, &mut v, &mut h, kept);
         kept = stepped.kept;
         let step = stepped.step;
         let told = tell_step(dump, kind, s, step, out, end);

@@ -1,10 +1,12 @@
 // Document 02, §5: up to 64 numbers, written into as many fields of one layout that lie end to end.
+use code::Frame;
 use code::Shape;
 use writing::Writing;
 ghost use mathlib.Core.Path.{_≡_};
 ghost use mathlib.Core.List.{[], _∷_, _++_};
 ghost use Prim.Native.Nat.{_+_, _*_, _≤_};
 ghost use lib.ListN.{length, take, drop, replicate};
+ghost use Rattle.code.specs.Shape.{framed};
 ghost use Rattle.code.specs.Calls.{writeReply, writeLeaves};
 ghost use Rattle.code.specs.Many.{fieldBytes, manyReplies, manyCells, manyTold, manyReply, manyLeaves};
 ghost use Rattle.writing.specs.Answers.{writingOf};
@@ -52,39 +54,48 @@ fn refuse(refusal: u64) -> End
 }
 
 // How many bytes a field takes.
-fn field_bytes(h: &[u64; 16], s: Shape) -> usize
-    requires { ⌜ Granted s (now h) ⌝ }
-    ensures { λ r. ⌜ (r ≡ fieldBytes s) × (r ≤ 128) ⌝ }
+fn field_bytes(h: &[u64; 16], f: Frame, v: &[u64; 16]) -> usize
+    requires { ⌜ Granted (framed f (now v)) (now h) ⌝ }
+    ensures { λ r. ⌜ (r ≡ fieldBytes (framed f (now (v .entry)))) × (r ≤ 128) ⌝ }
 {
-    (s.m * h[0] + 7) as usize / 8
+    (f.m * h[0] + 7) as usize / 8
 }
 
 // Writes the field of so many bytes that begins at a place of the cells.
-fn write_one(h: &[u64; 16], s: Shape, cells: &mut [u8], at: usize, size: usize, x: u64) -> Writing
-    requires { ⌜ (Granted s (now h)) × (at + size ≤ length (now cells)) ⌝ }
-    ensures { λ r. ⌜ writingOf r ≡ writeReply s x (take size (drop at (now (cells .entry)))) ⌝ }
-    ensures { λ r. ⌜ now (cells .exit) ≡ take at (now (cells .entry)) ++ (writeLeaves s x (take size (drop at (now (cells .entry)))) ++ drop size (drop at (now (cells .entry)))) ⌝ }
+fn write_one(
+    h: &[u64; 16],
+    f: Frame,
+    v: &[u64; 16],
+    cells: &mut [u8],
+    at: usize,
+    size: usize,
+    x: u64,
+) -> Writing
+    requires { ⌜ (Granted (framed f (now v)) (now h)) × (at + size ≤ length (now cells)) ⌝ }
+    ensures { λ r. ⌜ writingOf r ≡ writeReply (framed f (now (v .entry))) x (take size (drop at (now (cells .entry)))) ⌝ }
+    ensures { λ r. ⌜ now (cells .exit) ≡ take at (now (cells .entry)) ++ (writeLeaves (framed f (now (v .entry))) x (take size (drop at (now (cells .entry)))) ++ drop size (drop at (now (cells .entry)))) ⌝ }
 {
-    writing::write_granted(h, s, &mut cells[at..at + size], x)
+    writing::write_granted(h, f, v, &mut cells[at..at + size], x)
 }
 
 // Writes the numbers in order up to the first refusal.
 fn write_fields(
     h: &[u64; 16],
-    s: Shape,
+    f: Frame,
+    v: &[u64; 16],
     cells: &mut [u8],
     size: usize,
     numbers: &[u64],
     rows: &mut [u16; 128],
 ) -> End
-    requires { ⌜ (Granted s (now h)) × (size ≡ fieldBytes s) × (length (now numbers) ≤ 64) × (length (now cells) ≡ length (now numbers) * size) ⌝ }
+    requires { ⌜ (Granted (framed f (now v)) (now h)) × (size ≡ fieldBytes (framed f (now v))) × (length (now numbers) ≤ 64) × (length (now cells) ≡ length (now numbers) * size) ⌝ }
     requires { ⌜ now rows ≡ replicate 128 0 ⌝ }
-    ensures { λ r. ⌜ (endOf r ∷ take 64 (now (rows .exit)) ∷ drop 64 (now (rows .exit)) ∷ []) ≡ manyTold (manyReplies s (now (numbers .entry)) (now (cells .entry))) ⌝ }
-    ensures { λ r. ⌜ now (cells .exit) ≡ manyCells s (now (numbers .entry)) (now (cells .entry)) ⌝ }
+    ensures { λ r. ⌜ (endOf r ∷ take 64 (now (rows .exit)) ∷ drop 64 (now (rows .exit)) ∷ []) ≡ manyTold (manyReplies (framed f (now (v .entry))) (now (numbers .entry)) (now (cells .entry))) ⌝ }
+    ensures { λ r. ⌜ now (cells .exit) ≡ manyCells (framed f (now (v .entry))) (now (numbers .entry)) (now (cells .entry)) ⌝ }
 {
     let mut j = 0;
     while j < numbers.len() {
-        match write_one(h, s, cells, j * size, size, numbers[j]) {
+        match write_one(h, f, v, cells, j * size, size, numbers[j]) {
             Writing::Written { generation, turned } => {
                 rows[j] = generation as u16;
                 rows[64 + j] = turned as u16;
@@ -123,15 +134,16 @@ fn write_all(s: Shape, cells: &mut [u8], numbers: &[u64], rows: &mut [u16; 128])
         return refuse(14);
     }
     let mut h = [0u64; 16];
-    let refusal = layout::lay_into(&mut h, s, 256);
+    let f = layout::frame(s);
+    let refusal = layout::lay_into(&mut h, f, &s.v, 256);
     if refusal != 0 {
         return refuse(refusal);
     }
-    let size = field_bytes(&h, s);
+    let size = field_bytes(&h, f, &s.v);
     if cells.len() != numbers.len() * size {
         return refuse(3);
     }
-    write_fields(&h, s, cells, size, numbers, rows)
+    write_fields(&h, f, &s.v, cells, size, numbers, rows)
 }
 
 // One number for each field, written in order; the first refusal ends it, and the fields before it stay written.

@@ -8,15 +8,15 @@ use lib.ListN.{length, getD}
 use borrow.Author.Tests.{leb-false}
 use Rattle.code.specs.declared.Kind.{Kind}
 use Rattle.code.specs.declared.Kind.the-variants.{Old, New}
-use Rattle.code.specs.declared.Record.{Record}
 use Rattle.code.specs.Lists.{Below}
 use Rattle.code.specs.LayoutList.{Listed, unlisted, listedNumbers, listedShape, Layouts, brokenList, layouts, layoutList}
-use Rattle.code.specs.Dump.{Source, ownLayouts, listedLayouts, headLength, recordBy, outOfList, taken, entered, behindList, openingAs, step}
+use Rattle.code.specs.Dump.{Record, Source, ownLayouts, listedLayouts, headLength, recordBy, outOfList, taken, entered, behindList, openingAs, step}
 use Rattle.code.proofs.Tests.{clash}
+use Rattle.code.proofs.LayoutCall.{filled-at}
 use Rattle.code.proofs.Wits.{Bytes}
 use Rattle.code.proofs.Records.{below-at, open-short, step-entered}
 use Rattle.code.proofs.Walk.{entered-short, numbers-ahead, step-in-given}
-use Rattle.code.proofs.LayoutLists.{AllListable, Listable, listable-at, list-was}
+use Rattle.code.proofs.LayoutLists.{AllListable, Listable, listable-at, listable-some, list-was}
 use Rattle.records.specs.Source.{sourceOf, layoutsAt}
 use Rattle.moves.specs.Passes.{Begins, oldHead}
 
@@ -36,7 +36,7 @@ listed-below : (l : Listed) → Listable l → Below (2 ^ 63) (layoutNumbers l)
 unfolding listedNumbers
 listed-below l s =
     let b = s .small .1 in
-    (b .0, (b .1 .0, (below-at (2 ^ 63) (l .ranges) 0 (b .1 .1) (omega (arith, s .single)), tt)))
+    (b .0, (b .1 .0, (below-at (2 ^ 63) (l .ranges) 0 (b .1 .1) (listable-some l s), tt)))
 
 -- layouts that a list can hold, where the dump has one
 abbrev Holds : Source → Type 0
@@ -50,8 +50,9 @@ by-below ownLayouts xs start s n o b =
     let each : (i : ℕ) → i < 5 → getD xs i 0 < 2 ^ 63 = λ i h. below-at (2 ^ 63) xs i b (omega arith) in
     (each 0 (omega arith), (each 1 (omega arith), (each 2 (omega arith), (each 3 (omega arith), tt))))
 by-below (listedLayouts ls) xs start s n o b =
-    let l : ℕ = getD xs 1 0 in
-    (below-at (2 ^ 63) xs 0 b (omega arith), listed-below (getD ls l unlisted) (listable-at ls l s (leb-false (length ls) l o)))
+    let l : Listed = getD ls (getD xs 1 0) unlisted in
+    let first = filled-at 16 (l .ranges) 0 (omega arith) in
+    (below-at (2 ^ 63) xs 0 b (omega arith), rw first (listed-below l (listable-at ls (getD xs 1 0) s (leb-false (length ls) (getD xs 1 0) o))))
 
 begins-holds : (kind : Kind) (bytes places : List ℕ) (start : ℕ) → Bytes bytes → Begins kind bytes places start → Holds (sourceOf kind bytes places)
 unfolding sourceOf

@@ -10,10 +10,9 @@ use lib.Dec.{eqb}
 use lib.ListN.{length, getD, take, drop, set, length-append, length-set}
 use lib.Seq.{take-add, drop-cons, getD-set-same, getD-set-other}
 use borrow.Author.Tests.{eq-eqb}
-use Rattle.code.specs.declared.Shape.{Shape}
 use Rattle.code.specs.Lists.{Below, same}
 use Rattle.code.specs.Numerals.{numeralsOf}
-use Rattle.code.specs.LayoutList.{Listed, listedNumbers, listedOf, layoutsOf}
+use Rattle.code.specs.LayoutList.{Listed, listedNumbers, layoutsOf}
 use Rattle.code.specs.NewDump.{placeOf, joined}
 use Rattle.code.proofs.Tests.{le-or-lt}
 use Rattle.code.proofs.HexLines.{same-eq}
@@ -34,24 +33,28 @@ and-true : (b : Bool) → b ≡ (b && true)
 and-true true = refl
 and-true false = refl
 
-module _ (xs : List ℕ) (i : ℕ) (s : Shape) where
-  pub unlike-v : (getD xs (4 * i + 3) 0 ≡ s .v → ⊥) → false ≡ alike (keptAt xs i) (listedOf s)
-  unfolding keptAt listedOf listedNumbers
-  unlike-v n = unlike (keptAt xs i) (listedOf s) 3 n
+-- the layout of form 0 with these numbers, as an old dump says it
+abbrev oldListed : ℕ → ℕ → ℕ → Listed
+oldListed m t v = record { form = 0; m = m; t = t; ranges = v ∷ [] }
 
-  pub unlike-t : (getD xs (4 * i + 2) 0 ≡ s .t → ⊥) → false ≡ alike (keptAt xs i) (listedOf s)
-  unfolding keptAt listedOf listedNumbers
-  unlike-t n = unlike (keptAt xs i) (listedOf s) 2 n
+module _ (xs : List ℕ) (i : ℕ) (m t v : ℕ) where
+  pub unlike-v : (getD xs (4 * i + 3) 0 ≡ v → ⊥) → false ≡ alike (keptAt xs i) (oldListed m t v)
+  unfolding keptAt listedNumbers
+  unlike-v n = unlike (keptAt xs i) (oldListed m t v) 3 n
 
-  pub unlike-m : (getD xs (4 * i + 1) 0 ≡ s .m → ⊥) → false ≡ alike (keptAt xs i) (listedOf s)
-  unfolding keptAt listedOf listedNumbers
-  unlike-m n = unlike (keptAt xs i) (listedOf s) 1 n
+  pub unlike-t : (getD xs (4 * i + 2) 0 ≡ t → ⊥) → false ≡ alike (keptAt xs i) (oldListed m t v)
+  unfolding keptAt listedNumbers
+  unlike-t n = unlike (keptAt xs i) (oldListed m t v) 2 n
+
+  pub unlike-m : (getD xs (4 * i + 1) 0 ≡ m → ⊥) → false ≡ alike (keptAt xs i) (oldListed m t v)
+  unfolding keptAt listedNumbers
+  unlike-m n = unlike (keptAt xs i) (oldListed m t v) 1 n
 
   -- where the others are the same, the forms tell
-  pub by-form : getD xs (4 * i + 3) 0 ≡ s .v → getD xs (4 * i + 2) 0 ≡ s .t → getD xs (4 * i + 1) 0 ≡ s .m →
-      eqb (getD xs (4 * i) 0) (s .form) ≡ alike (keptAt xs i) (listedOf s)
-  unfolding same keptAt listedOf listedNumbers
-  by-form v t m = rw (eq-eqb _ _ v, eq-eqb _ _ t, eq-eqb _ _ m) (and-true _)
+  pub by-form : getD xs (4 * i + 3) 0 ≡ v → getD xs (4 * i + 2) 0 ≡ t → getD xs (4 * i + 1) 0 ≡ m →
+      eqb (getD xs (4 * i) 0) 0 ≡ alike (keptAt xs i) (oldListed m t v)
+  unfolding same keptAt listedNumbers
+  by-form sameV sameT sameM = rw (eq-eqb _ _ sameV, eq-eqb _ _ sameT, eq-eqb _ _ sameM) (and-true _)
 
 -- a layout that is none of a list's stands behind it as it stands in what follows
 place-behind : (ls more : List Listed) (l : Listed) → length ls ≤ placeOf ls l → placeOf (ls ++ more) l ≡ length ls + placeOf more l
@@ -128,43 +131,43 @@ kept-set zero xs j a h = refl
 kept-set (suc k) xs j a h = rw (kept-set k xs j a (omega arith), at-set xs k j a (omega arith))
 
 -- the numbers of a layout stored at a place
-abbrev pub stored : List ℕ → ℕ → Shape → List ℕ
-stored xs k s = set (set (set (set xs (4 * k) (s .form)) (4 * k + 1) (s .m)) (4 * k + 2) (s .t)) (4 * k + 3) (s .v)
+abbrev pub stored : List ℕ → ℕ → ℕ → ℕ → ℕ → List ℕ
+stored xs k m t v = set (set (set (set xs (4 * k) 0) (4 * k + 1) m) (4 * k + 2) t) (4 * k + 3) v
 
-module _ (xs : List ℕ) (k : ℕ) (s : Shape) where
+module _ (xs : List ℕ) (k : ℕ) (m t v : ℕ) where
   abbrev one : List ℕ
-  one = set xs (4 * k) (s .form)
+  one = set xs (4 * k) 0
 
   abbrev two : List ℕ
-  two = set one (4 * k + 1) (s .m)
+  two = set one (4 * k + 1) m
 
   abbrev three : List ℕ
-  three = set two (4 * k + 2) (s .t)
+  three = set two (4 * k + 2) t
 
-  stored-long : length (stored xs k s) ≡ length xs
+  stored-long : length (stored xs k m t v) ≡ length xs
   stored-long = simp length-set
 
-  stored-front : keptLayouts k (stored xs k s) ≡ keptLayouts k xs
-  stored-front = kept-set k three (4 * k + 3) (s .v) (omega arith) ∙ kept-set k two (4 * k + 2) (s .t) (omega arith)
-      ∙ kept-set k one (4 * k + 1) (s .m) (omega arith) ∙ kept-set k xs (4 * k) (s .form) (omega arith)
+  stored-front : keptLayouts k (stored xs k m t v) ≡ keptLayouts k xs
+  stored-front = kept-set k three (4 * k + 3) v (omega arith) ∙ kept-set k two (4 * k + 2) t (omega arith)
+      ∙ kept-set k one (4 * k + 1) m (omega arith) ∙ kept-set k xs (4 * k) 0 (omega arith)
 
-  stored-at : 4 * k + 4 ≤ length xs → keptAt (stored xs k s) k ≡ listedOf s
-  unfolding keptAt listedOf
+  stored-at : 4 * k + 4 ≤ length xs → keptAt (stored xs k m t v) k ≡ oldListed m t v
+  unfolding keptAt
   stored-at h =
-      let a : length one ≡ length xs = length-set xs (4 * k) (s .form) in
-      let b : length two ≡ length one = length-set one (4 * k + 1) (s .m) in
-      let c : length three ≡ length two = length-set two (4 * k + 2) (s .t) in
-      let form : getD (stored xs k s) (4 * k) 0 ≡ s .form = getD-set-other three (4 * k + 3) (4 * k) (s .v) 0 (λ q. omega arith)
-      ∙ getD-set-other two (4 * k + 2) (4 * k) (s .t) 0 (λ q. omega arith) ∙ getD-set-other one (4 * k + 1) (4 * k) (s .m) 0 (λ q. omega arith)
-      ∙ getD-set-same xs (4 * k) (s .form) 0 (omega arith) in
-      let m : getD (stored xs k s) (4 * k + 1) 0 ≡ s .m = getD-set-other three (4 * k + 3) (4 * k + 1) (s .v) 0 (λ q. omega arith)
-      ∙ getD-set-other two (4 * k + 2) (4 * k + 1) (s .t) 0 (λ q. omega arith) ∙ getD-set-same one (4 * k + 1) (s .m) 0 (omega arith) in
-      let t : getD (stored xs k s) (4 * k + 2) 0 ≡ s .t = getD-set-other three (4 * k + 3) (4 * k + 2) (s .v) 0 (λ q. omega arith)
-      ∙ getD-set-same two (4 * k + 2) (s .t) 0 (omega arith) in
-      let v : getD (stored xs k s) (4 * k + 3) 0 ≡ s .v = getD-set-same three (4 * k + 3) (s .v) 0 (omega arith) in
-      rw (form, m, t, v)
+      let a : length one ≡ length xs = length-set xs (4 * k) 0 in
+      let b : length two ≡ length one = length-set one (4 * k + 1) m in
+      let c : length three ≡ length two = length-set two (4 * k + 2) t in
+      let form : getD (stored xs k m t v) (4 * k) 0 ≡ 0 = getD-set-other three (4 * k + 3) (4 * k) v 0 (λ q. omega arith)
+      ∙ getD-set-other two (4 * k + 2) (4 * k) t 0 (λ q. omega arith) ∙ getD-set-other one (4 * k + 1) (4 * k) m 0 (λ q. omega arith)
+      ∙ getD-set-same xs (4 * k) 0 0 (omega arith) in
+      let sameM : getD (stored xs k m t v) (4 * k + 1) 0 ≡ m = getD-set-other three (4 * k + 3) (4 * k + 1) v 0 (λ q. omega arith)
+      ∙ getD-set-other two (4 * k + 2) (4 * k + 1) t 0 (λ q. omega arith) ∙ getD-set-same one (4 * k + 1) m 0 (omega arith) in
+      let sameT : getD (stored xs k m t v) (4 * k + 2) 0 ≡ t = getD-set-other three (4 * k + 3) (4 * k + 2) v 0 (λ q. omega arith)
+      ∙ getD-set-same two (4 * k + 2) t 0 (omega arith) in
+      let sameV : getD (stored xs k m t v) (4 * k + 3) 0 ≡ v = getD-set-same three (4 * k + 3) v 0 (omega arith) in
+      rw (form, sameM, sameT, sameV)
 
-  pub stored-more : 4 * k + 4 ≤ length xs → keptLayouts (suc k) (stored xs k s) ≡ keptLayouts k xs ++ (listedOf s ∷ [])
+  pub stored-more : 4 * k + 4 ≤ length xs → keptLayouts (suc k) (stored xs k m t v) ≡ keptLayouts k xs ++ (oldListed m t v ∷ [])
   unfolding keptLayouts
   stored-more h = rw (stored-front, stored-at h)
 
@@ -204,12 +207,12 @@ module _ {count : ℕ} {xs : List ℕ} {ls : List Listed} (k : Keeps count xs ls
         over = λ a. rw (behind h) (omega (arith, kept-many, length-append ls (l ∷ [])));
       }
 
-    pub keeps-more : (s : Shape) (place : ℕ) → place ≡ placeOf (keptLayouts count xs) (listedOf s) → count < 64 → count ≤ place →
-        Keeps (count + 1) (stored xs count s) (joined ls (listedOf s))
-    keeps-more s place is f h = record {
-      long = stored-long xs count s ∙ k .long;
+    pub keeps-more : (m t v place : ℕ) → place ≡ placeOf (keptLayouts count xs) (oldListed m t v) → count < 64 → count ≤ place →
+        Keeps (count + 1) (stored xs count m t v) (joined ls (oldListed m t v))
+    keeps-more m t v place is f h = record {
+      long = stored-long xs count m t v ∙ k .long;
       few = omega arith;
-      same = λ a. behind (listedOf s) place is h ∙ rw (add-one count, stored-more xs count s (omega (arith, k .long)), k .same few);
+      same = λ a. behind (oldListed m t v) place is h ∙ rw (add-one count, stored-more xs count m t v (omega (arith, k .long)), k .same few);
       over = λ a. absurd (omega arith);
     }
 

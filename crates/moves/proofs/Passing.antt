@@ -7,9 +7,8 @@ use lib.ListN.{length, take, drop, length-drop}
 use lib.Seq.{length-take-le}
 use Rattle.code.specs.declared.Kind.{Kind}
 use Rattle.code.specs.declared.Kind.the-variants.{Old}
-use Rattle.code.specs.declared.Record.{Record}
 use Rattle.code.specs.LayoutList.{Listed, listedOf}
-use Rattle.code.specs.Dump.{recordOf, Source, taken, ended, stopped, barred, openingAs, opening, step, cellsOf, onward, startOf, walk}
+use Rattle.code.specs.Dump.{Record, recordOf, Source, taken, ended, stopped, barred, openingAs, opening, step, cellsOf, onward, startOf, walk}
 use Rattle.code.specs.NewDump.{Entry, entryHead, recordsOf, entriesOf, stopOf, placeOf, numbered}
 use Rattle.code.proofs.Records.{open-short, step-barred}
 use Rattle.code.proofs.Walk.{entered-short, step-forward, walk-ended, walk-stopped, onward-taken}
@@ -22,6 +21,8 @@ use Rattle.dump.proofs.Walking.{opened-barred}
 use Rattle.dump.specs.declared.Halt.{Halt}
 use Rattle.dump.specs.declared.Located.{Located}
 use Rattle.dump.specs.declared.Located.the-variants.{Record as There, End, Stop}
+use Rattle.records.specs.declared.Head.{Head}
+use Rattle.records.specs.Head.{headRecord}
 use Rattle.moves.specs.Passes.{Begins, entriesIn, saidBy}
 
 -- a record with the number of its layout in a list
@@ -69,15 +70,15 @@ unfolding openingAs sourceOf
 begins-old bytes places start o = open-short Old bytes (entered-short Old bytes _ _ o)
 
 -- what stands at a place, as a step
-module _ (kind : Kind) (bytes : List ℕ) (at : ℕ) {x : Located} (e : locatedOf x ≡ step kind bytes at) where
-  pub at-record : {r : Record} → x ≡ There r → step kind bytes at ≡ taken r
-  at-record q = sym (ap locatedOf (sym q) ∙ e)
+module _ (kind : Kind) (bytes : List ℕ) (at : ℕ) (source : Source) {x : Located} (e : locatedOf source x ≡ step kind bytes at) where
+  pub at-record : {h : Head} → x ≡ There h → step kind bytes at ≡ taken (headRecord source h)
+  at-record q = sym (ap (locatedOf source) (sym q) ∙ e)
 
   pub at-end : x ≡ End → step kind bytes at ≡ ended
-  at-end q = sym (ap locatedOf (sym q) ∙ e)
+  at-end q = sym (ap (locatedOf source) (sym q) ∙ e)
 
   pub at-stop : {halt : Halt} → x ≡ Stop halt → step kind bytes at ≡ stopped (haltNumber halt) (haltCarries halt)
-  at-stop q = sym (ap locatedOf (sym q) ∙ e)
+  at-stop q = sym (ap (locatedOf source) (sym q) ∙ e)
 
 -- the record that a step gives, with its cells
 abbrev pub entryAt : List ℕ → Record → Entry

@@ -5,9 +5,8 @@ use mathlib.Core.List.{List, [], _∷_, _++_, append-assoc}
 use native.Mathlib.Omega.{arith}
 use lib.ListN.{length, length-append}
 use Rattle.code.specs.declared.Kind.{Kind}
-use Rattle.code.specs.declared.Record.{Record}
 use Rattle.code.specs.LayoutList.{Listed}
-use Rattle.code.specs.Dump.{recordOf, Source, ownLayouts, listedLayouts, headLength, taken, ended, stopped, step, cellsOf, onward, walk}
+use Rattle.code.specs.Dump.{Record, recordOf, Source, ownLayouts, listedLayouts, headLength, taken, ended, stopped, step, cellsOf, onward, walk}
 use Rattle.code.specs.NewDump.{Entry, entryHead, recordsOf, entriesOf, numbered, stopOf}
 use Rattle.code.proofs.Tests.{clash}
 use Rattle.code.proofs.Digits.{sevens-few}

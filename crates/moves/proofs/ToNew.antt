@@ -8,11 +8,10 @@ use lib.Dec.{ltb}
 use lib.ListN.{length, take, length-append}
 use borrow.Author.Tests.{lt-ltb, le-ltb}
 use Rattle.code.specs.declared.Kind.the-variants.{Old}
-use Rattle.code.specs.declared.Record.{Record}
 use Rattle.code.specs.Lists.{Below}
 use Rattle.code.specs.Numerals.{numeralsOf}
 use Rattle.code.specs.LayoutList.{Listed, listedOf}
-use Rattle.code.specs.Dump.{recordOf, listedLayouts, taken, ended, step, cellsOf, walk}
+use Rattle.code.specs.Dump.{Record, recordOf, listedLayouts, taken, ended, step, cellsOf, walk}
 use Rattle.code.specs.NewDump.{Entry, entryHead, recordsOf, newDumpOf, stopOf, placeOf, joined, firstUse, numbered}
 use Rattle.code.specs.NewDump.{toNew, toNewRefusal, toNewReply, toNewLeaves}
 use Rattle.code.proofs.Wits.{Bytes}
@@ -23,6 +22,12 @@ use Rattle.code.proofs.Dumps.{dump-was}
 use Rattle.code.proofs.FirstUse.{first-next, AllListed, first-lists, first-listable}
 use Rattle.moves.specs.Kept.{keptLayouts, Keeps}
 use Rattle.moves.specs.Passes.{Begins, entriesIn, saidBy, Collects, numberedBy}
+use Rattle.code.specs.Cells.{listed as listedFrom}
+use Rattle.code.specs.Shape.{given}
+use Rattle.records.specs.declared.Said.{Said}
+use Rattle.records.specs.Head.{saidShape}
+use Rattle.records.specs.Source.{sourceOf}
+use Rattle.moves.specs.Kept.{saidListed}
 use Rattle.moves.proofs.Passing.{entryAt, passing-end}
 use Rattle.moves.proofs.Storing.{movedAt, Measuring, measuring-begin, measuring-first, measuring-next, measuring-gone, measuring-end}
 use Rattle.moves.proofs.Moving.{Moves}
@@ -32,6 +37,11 @@ use Rattle.moves.proofs.Keeping.{kept-long, keeps-none, kept-bytes, kep
 pub record Collecting (bytes kept : List ℕ) (at total count : ℕ) : Type 0 where
   pub measured : Measuring (listedLayouts []) [] Old bytes at total
   pub keeps : Keeps count kept (firstUse [] (measured .gone))
+
+-- what a record of an old dump says is the layout of its shape
+pub own-said : (bytes places : List ℕ) (s : Said) → listedOf (saidShape (sourceOf Old bytes places) s) ≡ saidListed s
+unfolding listedOf saidShape sourceOf given listedFrom
+own-said bytes places s = refl
 
 -- in no list every number is 0
 pub number-less : (bytes : List ℕ) (r : Record) → recordOf (r .serial ∷ 0 ∷ []) (cellsOf bytes r) ≡ movedAt (listedLayouts []) [] bytes r

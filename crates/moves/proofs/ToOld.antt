@@ -9,10 +9,9 @@ use lib.ListN.{length, getD, drop, drop-of-length-le}
 use lib.Seq.{drop-cons}
 use borrow.Author.Tests.{eq-eqb, ne-eqb}
 use Rattle.code.specs.declared.Kind.the-variants.{New}
-use Rattle.code.specs.declared.Record.{Record}
 use Rattle.code.specs.declared.Shape.{Shape}
 use Rattle.code.specs.LayoutList.{Listed, listedShape, layoutList}
-use Rattle.code.specs.Dump.{recordOf, ownLayouts, cellsOf, walk}
+use Rattle.code.specs.Dump.{Record, recordOf, ownLayouts, cellsOf, walk}
 use Rattle.code.specs.NewDump.{entryHead, stopOf, listedIn, foreign, toOld, toOldRefusal, toOldReply, toOldLeaves}
 use Rattle.code.proofs.FirstUse.{records-numbered}
 use Rattle.records.specs.Source.{layoutAt, layoutsAt}

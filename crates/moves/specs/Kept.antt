@@ -4,10 +4,15 @@ use mathlib.Core.Path.{_≡_}
 use mathlib.Core.List.{List, [], _∷_, _++_}
 use lib.ListN.{length, getD}
 use Rattle.code.specs.LayoutList.{Listed}
+use Rattle.records.specs.declared.Said.{Said}
 
 -- the layout at a place
 unfoldable pub keptAt : List ℕ → ℕ → Listed
 keptAt xs i = record { form = getD xs (4 * i) 0; m = getD xs (4 * i + 1) 0; t = getD xs (4 * i + 2) 0; ranges = getD xs (4 * i + 3) 0 ∷ [] }
+
+-- the layout that a record of an old dump says: "m, t, v", of form 0
+abbrev pub saidListed : Said → Listed
+saidListed s = record { form = 0; m = s .m; t = s .t; ranges = s .v ∷ [] }
 
 -- the first so many
 unfoldable pub keptLayouts : ℕ → List ℕ → List Listed

@@ -3,15 +3,15 @@ use Prim.Native.Nat.{ℕ, zero, suc, _*_, _≤_}
 use mathlib.Core.Path.{_≡_}
 use mathlib.Core.List.{List, [], _∷_}
 use lib.Dec.{ltb}
-use lib.ListN.{length}
+use lib.ListN.{length, getD, take, drop}
 use Rattle.code.specs.declared.Kind.{Kind}
 use Rattle.code.specs.declared.Kind.the-variants.{Old, New}
-use Rattle.code.specs.declared.Record.{Record}
 use Rattle.code.specs.Calls.{refusal}
 use Rattle.code.specs.LayoutList.{Listed}
-use Rattle.code.specs.Dump.{Source, listedLayouts, entered, opening, walk}
+use Rattle.code.specs.Dump.{Record, Source, listedLayouts, entered, opening, walk}
 use Rattle.code.specs.NewDump.{Entry, recordsOf, entriesOf, stopOf, firstUse, numbered, toOld}
 use Rattle.records.specs.Source.{sourceOf}
+use Rattle.records.specs.declared.Head.{Head}
 use Rattle.dump.specs.Answers.{haltOf}
 use Rattle.moves.specs.Kept.{Keeps}
 use Rattle.moves.specs.declared.to_new.Collected.{Collected}
@@ -42,7 +42,11 @@ saidBy source ls es = recordsOf source (numbered ls es)
 
 -- 01: "serial, m, t, v": the numbers before n of a record of an old dump
 abbrev pub oldHead : Record → List ℕ
-oldHead r = r .serial ∷ r .shape .m ∷ r .shape .t ∷ r .shape .v ∷ []
+oldHead r = r .serial ∷ r .shape .m ∷ r .shape .t ∷ getD (r .shape .v) 0 0 ∷ []
+
+-- the cells of a head
+abbrev pub cellsAt : List ℕ → Head → List ℕ
+cellsAt bytes h = take (h .count) (drop (h .start) bytes)
 
 -- the first pass of a move to old: the walk meets the end, and the length is that of the old dump; or why it stops
 abbrev pub Measures : List ℕ → Measured → Type 0

@@ -3,19 +3,19 @@ mod to_new;
 mod to_old;
 
 use code::Kind;
-use code::Record;
 use dump::Halt;
 use dump::Opened;
+use records::Head;
 ghost use mathlib.Core.Path.{_≡_};
 ghost use Prim.Native.Nat.{_+_, _^_, _≤_};
 ghost use lib.ListN.{length};
 ghost use Rattle.code.specs.Lists.{Below};
-ghost use Rattle.code.specs.Dump.{recordOf, cellsOf};
+ghost use Rattle.code.specs.Dump.{recordOf};
 ghost use Rattle.code.specs.NewDump.{toNewReply, toNewLeaves, toOldReply, toOldLeaves};
 ghost use Rattle.storing.specs.Put.{Put};
 ghost use Rattle.dump.specs.Answers.{haltOf};
 ghost use Rattle.moves.specs.Answers.{movedOf};
-ghost use Rattle.moves.specs.Passes.{refusedBy, lengthRefusal};
+ghost use Rattle.moves.specs.Passes.{refusedBy, lengthRefusal, cellsAt};
 
 // The most layouts of a new dump.
 const LAYOUTS_MOST: usize = records::list::LAYOUTS_MOST;
@@ -52,14 +52,14 @@ fn refuse_length(length: usize, room: usize) -> u64
     0
 }
 
-// Stores a record of a dump at a place of `out`, its numbers before n being those of `head`.
-fn put_moved(dump: &[u8], record: Record, head: &[u64], out: &mut [u8], place: usize) -> usize
-    requires { ⌜ Below (2 ^ 63) (now head) ⌝ }
-    requires { ⌜ place + length (recordOf (now head) (cellsOf (now dump) «record»)) ≤ length (now out) ⌝ }
-    ensures { λ r. ⌜ Put (now (out .entry)) (now (out .exit)) place (recordOf (now (head .entry)) (cellsOf (now (dump .entry)) «record»)) r ⌝ }
+// Stores the record of a head at a place of `out`, with other numbers before n.
+fn put_moved(dump: &[u8], head: Head, numbers: &[u64], out: &mut [u8], place: usize) -> usize
+    requires { ⌜ Below (2 ^ 63) (now numbers) ⌝ }
+    requires { ⌜ place + length (recordOf (now numbers) (cellsAt (now dump) head)) ≤ length (now out) ⌝ }
+    ensures { λ r. ⌜ Put (now (out .entry)) (now (out .exit)) place (recordOf (now (numbers .entry)) (cellsAt (now (dump .entry)) head)) r ⌝ }
 {
-    let cells = records::part(dump, record.start, record.count);
-    records::put_record(out, place, head, cells)
+    let cells = records::part(dump, head.start, head.count);
+    records::put_record(out, place, numbers, cells)
 }
 
 // Moves an old dump to a new one, which it stores at the front of `out`.

@@ -2,24 +2,24 @@
 use crate::LAYOUTS_MOST;
 use crate::Moved;
 use code::Kind;
-use code::Record;
-use code::Shape;
 use dump::Halt;
 use dump::Located;
+use records::Head;
+use records::Said;
 ghost use mathlib.Core.Path.{_≡_};
 ghost use mathlib.Core.List.{List, [], _∷_};
 ghost use Prim.Native.Nat.{ℕ, _+_, _*_, _^_, _≤_, _<_};
 ghost use lib.ListN.{length, take};
 ghost use Rattle.code.specs.declared.Kind.the-variants.{Old};
 ghost use Rattle.code.specs.Lists.{Below, same};
-ghost use Rattle.code.specs.LayoutList.{Listed, listedNumbers, listedOf};
+ghost use Rattle.code.specs.LayoutList.{Listed, listedNumbers};
 ghost use Rattle.code.specs.Numerals.{numeralsOf};
-ghost use Rattle.code.specs.Dump.{recordOf, cellsOf, walk};
+ghost use Rattle.code.specs.Dump.{recordOf, walk};
 ghost use Rattle.code.specs.NewDump.{stopOf, placeOf, joined, toNewReply, toNewLeaves};
 ghost use Rattle.storing.specs.Put.{Put};
 ghost use Rattle.moves.specs.Answers.{movedOf};
-ghost use Rattle.moves.specs.Kept.{keptAt, keptLayouts, Keeps};
-ghost use Rattle.moves.specs.Passes.{Begins, Collects, Gathers, numberedBy};
+ghost use Rattle.moves.specs.Kept.{keptAt, saidListed, keptLayouts, Keeps};
+ghost use Rattle.moves.specs.Passes.{Begins, cellsAt, Collects, Gathers, numberedBy};
 
 // The numbers of all layouts that are kept: form, m, t, v of each.
 const KEPT_MOST: usize = 4 * LAYOUTS_MOST;
@@ -31,31 +31,31 @@ pub enum Collected {
 }
 
 // Whether the layout at a place of those kept is this one. The form is looked at last: in old dumps it is always 0.
-fn is_kept(kept: &[u64], i: usize, shape: Shape) -> bool
+fn is_kept(kept: &[u64], i: usize, said: Said) -> bool
     requires { ⌜ 4 * i + 4 ≤ length (now kept) ⌝ }
-    ensures { λ r. ⌜ r ≡ same (listedNumbers (keptAt (now (kept .entry)) i)) (listedNumbers (listedOf shape)) ⌝ }
+    ensures { λ r. ⌜ r ≡ same (listedNumbers (keptAt (now (kept .entry)) i)) (listedNumbers (saidListed said)) ⌝ }
 {
     let first = 4 * i;
-    if kept[first + 3] != shape.v {
+    if kept[first + 3] != said.v {
         return false;
     }
-    if kept[first + 2] != shape.t {
+    if kept[first + 2] != said.t {
         return false;
     }
-    if kept[first + 1] != shape.m {
+    if kept[first + 1] != said.m {
         return false;
     }
-    kept[first] == shape.form
+    kept[first] == 0
 }
 
 // 02, §3, "layout number from 0": the place of a layout among those kept, their count where it is none of them.
-fn place_of(kept: &[u64], count: usize, shape: Shape) -> usize
+fn place_of(kept: &[u64], count: usize, said: Said) -> usize
     requires { ⌜ 4 * count ≤ length (now kept) ⌝ }
-    ensures { λ r. ⌜ r ≡ placeOf (keptLayouts count (now (kept .entry))) (listedOf shape) ⌝ }
+    ensures { λ r. ⌜ r ≡ placeOf (keptLayouts count (now (kept .entry))) (saidListed said) ⌝ }
 {
     let mut i = 0;
     while i < count {
-        if is_kept(kept, i, shape) {
+        if is_kept(kept, i, said) {
             return i;
         }
         i += 1;
@@ -64,34 +64,34 @@ fn place_of(kept: &[u64], count: usize, shape: Shape) -> usize
 }
 
 // Keeps a layout behind the others, unless it is one of them: the count of those kept then, 65 where they are too many.
-fn keep_layout(kept: &mut [u64], count: usize, shape: Shape) -> usize
+fn keep_layout(kept: &mut [u64], count: usize, said: Said) -> usize
     requires { ⌜ (count ≤ 65) × (length (now kept) ≡ 256) ⌝ }
-    ensures { λ r. ⌜ ((ls : List Listed) → Keeps count (now (kept .entry)) ls → Keeps r (now (kept .exit)) (joined ls (listedOf shape))) ⌝ }
+    ensures { λ r. ⌜ ((ls : List Listed) → Keeps count (now (kept .entry)) ls → Keeps r (now (kept .exit)) (joined ls (saidListed said))) ⌝ }
 {
     if LAYOUTS_MOST < count {
         return count;
     }
-    if place_of(kept, count, shape) < count {
+    if place_of(kept, count, said) < count {
         return count;
     }
     if count == LAYOUTS_MOST {
         return LAYOUTS_MOST + 1;
     }
     let first = 4 * count;
-    kept[first] = shape.form;
-    kept[first + 1] = shape.m;
-    kept[first + 2] = shape.t;
-    kept[first + 3] = shape.v;
+    kept[first] = 0;
+    kept[first + 1] = said.m;
+    kept[first + 2] = said.t;
+    kept[first + 3] = said.v;
     count + 1
 }
 
 // The length of a record with the number of its layout, which takes one byte.
-fn new_length(record: Record) -> usize
-    requires { ⌜ («record» .serial < 2 ^ 63) × («record» .count < 2 ^ 63) ⌝ }
-    ensures { λ r. ⌜ ((cells : List ℕ) → length cells ≡ «record» .count → r ≡ length (recordOf («record» .serial ∷ 0 ∷ []) cells)) ⌝ }
+fn new_length(head: Head) -> usize
+    requires { ⌜ (head .serial < 2 ^ 63) × (head .count < 2 ^ 63) ⌝ }
+    ensures { λ r. ⌜ ((cells : List ℕ) → length cells ≡ head .count → r ≡ length (recordOf (head .serial ∷ 0 ∷ []) cells)) ⌝ }
 {
-    let head = [record.serial, 0];
-    records::record_length(&head, record.count)
+    let numbers = [head.serial, 0];
+    records::record_length(&numbers, head.count)
 }
 
 // Keeps the layouts of all records in order of first use. A 65th does not end the pass: 02, §3 has "7 and 8 first", also a 7 behind it.
@@ -104,10 +104,10 @@ fn collect(dump: &[u8], places: &[u16], kept: &mut [u64]) -> Collected
     let mut layouts = 0;
     loop {
         match dump::locate(dump, Kind::Old, places, at) {
-            Located::Record(record) => {
-                layouts = keep_layout(kept, layouts, record.shape);
-                total += new_length(record);
-                at = record.start + record.count;
+            Located::Record(head) => {
+                layouts = keep_layout(kept, layouts, head.said);
+                total += new_length(head);
+                at = head.start + head.count;
             }
             Located::End => {
                 return Collected::Whole { total, layouts };
@@ -131,13 +131,13 @@ fn put_list(kept: &[u64], layouts: usize, out: &mut [u8]) -> usize
 }
 
 // Stores a record with the number of its layout at a place of `out`.
-fn put_new(dump: &[u8], record: Record, number: u64, out: &mut [u8], place: usize) -> usize
-    requires { ⌜ («record» .serial < 2 ^ 63) × (number < 2 ^ 63) ⌝ }
-    requires { ⌜ place + length (recordOf («record» .serial ∷ number ∷ []) (cellsOf (now dump) «record»)) ≤ length (now out) ⌝ }
-    ensures { λ r. ⌜ Put (now (out .entry)) (now (out .exit)) place (recordOf («record» .serial ∷ number ∷ []) (cellsOf (now (dump .entry)) «record»)) r ⌝ }
+fn put_new(dump: &[u8], head: Head, number: u64, out: &mut [u8], place: usize) -> usize
+    requires { ⌜ (head .serial < 2 ^ 63) × (number < 2 ^ 63) ⌝ }
+    requires { ⌜ place + length (recordOf (head .serial ∷ number ∷ []) (cellsAt (now dump) head)) ≤ length (now out) ⌝ }
+    ensures { λ r. ⌜ Put (now (out .entry)) (now (out .exit)) place (recordOf (head .serial ∷ number ∷ []) (cellsAt (now (dump .entry)) head)) r ⌝ }
 {
-    let head = [record.serial, number];
-    crate::put_moved(dump, record, &head, out, place)
+    let numbers = [head.serial, number];
+    crate::put_moved(dump, head, &numbers, out, place)
 }
 
 // Stores all records of a dump with the numbers of their layouts from a place of `out` on.
@@ -157,10 +157,10 @@ fn put_records(
     let mut place = first;
     loop {
         match dump::locate(dump, Kind::Old, places, at) {
-            Located::Record(record) => {
-                let number = place_of(kept, layouts, record.shape);
-                place = put_new(dump, record, number as u64, out, place);
-                at = record.start + record.count;
+            Located::Record(head) => {
+                let number = place_of(kept, layouts, head.said);
+                place = put_new(dump, head, number as u64, out, place);
+                at = head.start + head.count;
             }
             Located::End => {
                 return place;

@@ -1,21 +1,22 @@
 // 02, §3, "and back": a new dump that is opened, moved to an old one.
 use crate::Moved;
 use code::Kind;
-use code::Record;
 use dump::Halt;
 use dump::Located;
+use records::Head;
 ghost use mathlib.Core.Path.{_≡_};
 ghost use mathlib.Core.List.{List, []};
 ghost use Prim.Native.Nat.{ℕ, _+_, _^_, _≤_, _<_};
 ghost use lib.ListN.{length};
 ghost use Rattle.code.specs.declared.Kind.the-variants.{New};
 ghost use Rattle.code.specs.Lists.{Below};
-ghost use Rattle.code.specs.Dump.{recordOf, cellsOf, walk};
+ghost use Rattle.code.specs.Dump.{recordOf, walk};
 ghost use Rattle.code.specs.NewDump.{stopOf, foreign, toOld, toOldReply, toOldLeaves};
 ghost use Rattle.storing.specs.Put.{Put};
-ghost use Rattle.records.specs.Source.{layoutsAt};
+ghost use Rattle.records.specs.Source.{layoutsAt, sourceOf};
+ghost use Rattle.records.specs.Head.{headRecord};
 ghost use Rattle.moves.specs.Answers.{movedOf};
-ghost use Rattle.moves.specs.Passes.{Begins, oldHead, Measures};
+ghost use Rattle.moves.specs.Passes.{Begins, oldHead, cellsAt, Measures};
 
 // What the first pass comes to: the length of all records moved, or why the walk stops.
 pub enum Measured {
@@ -23,14 +24,31 @@ pub enum Measured {
     Stopped(Halt),
 }
 
-// The length of a record with the numbers of its layout.
-fn old_length(record: Record) -> usize
-    requires { ⌜ Below (2 ^ 63) (oldHead «record») × («record» .count < 2 ^ 63) ⌝ }
-    ensures { λ r. ⌜ ((cells : List ℕ) → length cells ≡ «record» .count → r ≡ length (recordOf (oldHead «record») cells)) ⌝ }
+// The numbers before n of a record of an old dump.
+struct OldHead {
+    numbers: [u64; 4],
+}
+
+// Those of a record with the numbers of its layout, up to the first range: no other form than 0 moves, and that has one.
+fn old_head(dump: &[u8], places: &[u16], head: Head) -> OldHead
+    ensures { λ r. ⌜ r .numbers ≡ oldHead (headRecord (sourceOf New (now (dump .entry)) (now (places .entry))) head) ⌝ }
 {
-    let s = record.shape;
-    let head = [record.serial, s.m, s.t, s.v];
-    records::record_length(&head, record.count)
+    let shape = records::shape_said(dump, Kind::New, places, head.said);
+    let v = shape.v;
+    let numbers = [head.serial, shape.m, shape.t, v[0]];
+    OldHead { numbers }
+}
+
+// The length of a record with the numbers of its layout.
+fn old_length(dump: &[u8], places: &[u16], head: Head) -> usize
+    requires { ⌜ Below (2 ^ 63) (oldHead (headRecord (sourceOf New (now dump) (now places)) head)) × (head .count < 2 ^ 63) ⌝ }
+    ensures { λ r.
+        let numbers = oldHead (headRecord (sourceOf New (now (dump .entry)) (now (places .entry))) head) in
+        ⌜ ((cells : List ℕ) → length cells ≡ head .count → r ≡ length (recordOf numbers cells)) ⌝ }
+{
+    let old = old_head(dump, places, head);
+    let numbers = old.numbers;
+    records::record_length(&numbers, head.count)
 }
 
 // The length of all records of a dump once they are moved.
@@ -42,9 +60,9 @@ fn measure(dump: &[u8], places: &[u16], start: usize) -> Measured
     let mut total = 0;
     loop {
         match dump::locate(dump, Kind::New, places, at) {
-            Located::Record(record) => {
-                total += old_length(record);
-                at = record.start + record.count;
+            Located::Record(head) => {
+                total += old_length(dump, places, head);
+                at = head.start + head.count;
             }
             Located::End => {
                 return Measured::Whole(total);
@@ -72,14 +90,16 @@ fn has_foreign(dump: &[u8], places: &[u16]) -> bool
 }
 
 // Stores a record with the numbers of its layout at a place of `out`.
-fn put_old(dump: &[u8], record: Record, out: &mut [u8], place: usize) -> usize
-    requires { ⌜ Below (2 ^ 63) (oldHead «record») ⌝ }
-    requires { ⌜ place + length (recordOf (oldHead «record») (cellsOf (now dump) «record»)) ≤ length (now out) ⌝ }
-    ensures { λ r. ⌜ Put (now (out .entry)) (now (out .exit)) place (recordOf (oldHead «record») (cellsOf (now (dump .entry)) «record»)) r ⌝ }
+fn put_old(dump: &[u8], places: &[u16], head: Head, out: &mut [u8], place: usize) -> usize
+    requires { ⌜ Below (2 ^ 63) (oldHead (headRecord (sourceOf New (now dump) (now places)) head)) ⌝ }
+    requires { ⌜ place + length (recordOf (oldHead (headRecord (sourceOf New (now dump) (now places)) head)) (cellsAt (now dump) head)) ≤ length (now out) ⌝ }
+    ensures { λ r.
+        let numbers = oldHead (headRecord (sourceOf New (now (dump .entry)) (now (places .entry))) head) in
+        ⌜ Put (now (out .entry)) (now (out .exit)) place (recordOf numbers (cellsAt (now (dump .entry)) head)) r ⌝ }
 {
-    let s = record.shape;
-    let head = [record.serial, s.m, s.t, s.v];
-    crate::put_moved(dump, record, &head, out, place)
+    let old = old_head(dump, places, head);
+    let numbers = old.numbers;
+    crate::put_moved(dump, head, &numbers, out, place)
 }
 
 // Stores all records of a dump at the front of `out`.
@@ -92,9 +112,9 @@ fn put_records(dump: &[u8], places: &[u16], start: usize, out: &mut [u8]) -> usi
     let mut place = 0;
     loop {
         match dump::locate(dump, Kind::New, places, at) {
-            Located::Record(record) => {
-                place = put_old(dump, record, out, place);
-                at = record.start + record.count;
+            Located::Record(head) => {
+                place = put_old(dump, places, head, out, place);
+                at = head.start + head.count;
             }
             Located::End => {
                 return place;

@@ -18,10 +18,10 @@ use Rattle.reading.proofs.Unique.{same-reading}
 
 -- 02, §2: refusal 11 is the answer to blank cells of a new drive, and to no other cells that pass 1 to 3.
 module _ (s : Shape) (ok : layoutRefusal s 256 ≡ []) where
-  pub blank-refused : (a : Reading) → s .form ≡ 1 → readingOf a ≡ readReply s (Code.blankCells s) → a ≡ Refused (Plain 11)
+  pub blank-refused : (a : Reading) → 0 < s .form → readingOf a ≡ readReply s (Code.blankCells s) → a ≡ Refused (Plain 11)
   blank-refused a new p = same-reading a (Refused (Plain 11)) (p ∙ Code.blank-refused s ok new)
 
-  pub refused-blank : (bs : List ℕ) → Bytes bs → readingOf (Refused (Plain 11)) ≡ readReply s bs → (s .form ≡ 1) × (bs ≡ Code.blankCells s)
+  pub refused-blank : (bs : List ℕ) → Bytes bs → readingOf (Refused (Plain 11)) ≡ readReply s bs → (0 < s .form) × (bs ≡ Code.blankCells s)
   refused-blank bs B p = Code.refused-blank s ok bs B (sym p)
 
   -- 02, §6: what 15 and 16 carry is fixed by the cells; generation 1 never gives 15.

@@ -27,7 +27,7 @@ use Rattle.code.proofs.Places.{told-last, told-before}
 use Rattle.code.proofs.Groups.{zeros-written, zeros-blank, unerased-zeros, zeros-padded, unerased-padded}
 use Rattle.code.proofs.Field.{past-next, read-blank, read-judged, judged-reads, judged-beyond, judged-miscounted}
 use Rattle.code.proofs.Cells.{groups-length}
-use Rattle.code.proofs.LayoutCall.{range-at}
+use Rattle.code.proofs.LayoutCall.{range-within}
 use Rattle.code.proofs.ReadCall.{read-no-layout, read-unsound, read-none, read-miscounted, read-beyond, read-found}
 use Rattle.counting.specs.Cap.{sat}
 use Rattle.words.specs.Words.{wordGroups, frontGroups, frontAt}
@@ -37,7 +37,7 @@ use Rattle.words.proofs.Joined.{seen-pickable, front-pickable}
 use Rattle.cells.specs.Cells.{Loadable, Loaded}
 use Rattle.layout.specs.Plan.{Granted}
 use Rattle.layout.proofs.Planning.{plan-refused}
-use Rattle.reading.specs.Answers.{answerOf, fieldGroups, Holds, Looked, Close, Ranged}
+use Rattle.reading.specs.Answers.{answerOf, judgedIn, readIn, SoundCells, fieldGroups, Holds, Looked, Close, Ranged}
 
 -- The number that places tell, from their labels and values, and from their digits.
 pub pattern-told : (b fewest s : ℕ) (xs at less : List ℕ) (k r : ℕ) → Gathered xs at less k → s ≡ length xs →
@@ -67,26 +67,28 @@ before-told e b fewest next xs r d q =
 
 -- What is judged at a place whose marked groups are its places.
 module _ {s : Shape} {h : List ℕ} (G : Granted s h) (i : ℕ) (l : i < s .t) (xs : List ℕ) (many : length xs ≡ getD (countsOf s) i 0) where
-  pub judged-is : (e b fewest next x : ℕ) (r : Field.Reading) → e ≡ 2 ^ s .m - 1 → b ≡ Field.base e i → fewest ≡ Field.fewest (firstOf s) i →
-      next ≡ getD (countsOf s) (suc i) 0 →
-      Close (Field.told e b fewest next xs) x → Ranged i (s .v) x r →
-      (gs : List ℕ) → Field.carriers (2 ^ s .m - 1) i gs ≡ xs → r ≡ Field.judged (2 ^ s .m - 1) (firstOf s) (countsOf s) (rangesOf s) gs i
-  judged-is e b fewest next x r p q o n C R gs c =
+  pub judged-is : (e b fewest next x v : ℕ) (r : Field.Reading) → e ≡ 2 ^ s .m - 1 → b ≡ Field.base e i → fewest ≡ Field.fewest (firstOf s) i →
+      next ≡ getD h (suc i) 0 → v ≡ getD (rangesOf s) i 0 →
+      Close (Field.told e b fewest next xs) x → Ranged i v x r →
+      (gs : List ℕ) → Field.carriers (2 ^ s .m - 1) i gs ≡ xs → r ≡ judgedIn s gs i
+  judged-is e b fewest next x v r p q o n w C R gs c =
       let f = 2 ^ s .m - 1 in
-      let v = range-at s i l in
       let y = Field.told f (Field.base f i) (Field.fewest (firstOf s) i) (getD (countsOf s) (suc i) 0) xs in
-      let same : Field.told e b fewest next xs ≡ y = rw (q, p, o, n) in
-      elim (le-or-lt (s .v) x) [
+      let same : Field.told e b fewest next xs ≡ y = rw (q, p, o, n, G .each (suc i)) in
+      elim (le-or-lt v x) [
         | inl beyond ↦
             R .outside beyond ∙ sym
-            (judged-beyond f (firstOf s) (countsOf s) (rangesOf s) gs xs i y c many refl (omega (arith, v, same, G .bounds .v-high, far beyond)))
+            (judged-beyond f (firstOf s) (countsOf s) (rangesOf s) gs xs i y c many refl (omega (arith, w, same, far beyond)))
         | inr inside ↦
-            let t : x ≡ Field.told e b fewest next xs = C .exact (omega (arith, G .bounds .v-high)) in
-            R .inside inside ∙ sym (judged-reads f (firstOf s) (countsOf s) (rangesOf s) gs xs i x c many (sym same ∙ sym t) (omega (arith, v)))
+            let t : x ≡ Field.told e b fewest next xs = C .exact (omega (arith, w, high)) in
+            R .inside inside ∙ sym (judged-reads f (firstOf s) (countsOf s) (rangesOf s) gs xs i x c many (sym same ∙ sym t) (omega (arith, w)))
       ]
     where
-      far : s .v ≤ x → s .v ≤ Field.told e b fewest next xs
-      far h = elim (le-or-lt (2 ^ 56) x) [ inl k ↦ omega (arith, C .large k, G .bounds .v-high) | inr k ↦ omega (arith, C .exact k) ]
+      high : getD (rangesOf s) i 0 ≤ 2 ^ 56
+      high = range-within s (G .bounds) i l .1
+
+      far : v ≤ x → v ≤ Field.told e b fewest next xs
+      far h = elim (le-or-lt (2 ^ 56) x) [ inl k ↦ omega (arith, C .large k, w, high) | inr k ↦ omega (arith, C .exact k) ]
 
 -- The field's groups among those of the words: the groups behind them are erased.
 module _ {s : Shape} {h : List ℕ} (G : Granted s h) {n : ℕ} {words : List ℕ} (H : Holds s n words) where
@@ -121,7 +123,7 @@ module _ {s : Shape} {h : List ℕ} (G : Granted s h) {n : ℕ} {words : List �
     ]
 
     abbrev reading : Field.Reading
-    reading = Field.read (2 ^ s .m - 1) (firstOf s) (countsOf s) (rangesOf s) (fieldGroups s n words)
+    reading = readIn s (fieldGroups s n words)
 
     pub reads-blank : seen .zeros ≡ getD h 0 0 → Field.blank ≡ reading
     reads-blank e = sym (read-blank (2 ^ s .m - 1) (firstOf s) (countsOf s) (rangesOf s) (fieldGroups s n words) (blank-here e))
@@ -130,7 +132,7 @@ module _ {s : Shape} {h : List ℕ} (G : Granted s h) {n : ℕ} {words : List �
       past-here : Field.past (countsOf s) (Field.zeros (fieldGroups s n words)) ≡ i
       past-here = rw (← same-zeros, ← W .blank, ← G .list) (sym p)
 
-      pub reads-at : (r : Field.Reading) → r ≡ Field.judged (2 ^ s .m - 1) (firstOf s) (countsOf s) (rangesOf s) (fieldGroups s n words) i → r ≡ reading
+      pub reads-at : (r : Field.Reading) → r ≡ judgedIn s (fieldGroups s n words) i → r ≡ reading
       reads-at r q =
           q ∙ sym (read-judged (2 ^ s .m - 1) (firstOf s) (countsOf s) (rangesOf s) (fieldGroups s n words) i (used-here d) past-here)
 
@@ -177,7 +179,7 @@ module _ {s : Shape} {h : List ℕ} (G : Granted s h) (bs : List ℕ) where
   pub reads-3 : (o : ℕ) (r : Bool) → o ≡ orderOf s → r ≡ sound o (s .m) (getD h 0 0) bs → not r ≡ true → 3 ∷ [] ≡ readReply s bs
   reads-3 o r q k f = sym (read-unsound s bs (G .ok) (sym (sound-width o q) ∙ sym k ∙ not-true r f))
 
-  module _ (f : sound (orderOf s) (s .m) (widthOf s) bs ≡ true) where
+  module _ (f : SoundCells s bs) where
     pub loadable : (o : ℕ) → o ≡ orderOf s → Loadable o (s .m) (getD h 0 0) bs
     loadable o q = record { low = G .bounds .m-low; high = G .bounds .m-high; some = G .some; few = G .small 0; fit = sound-width o q ∙ f }
 
@@ -207,10 +209,10 @@ module _ {s : Shape} {h : List ℕ} (G : Granted s h) (bs : List ℕ) where
       }
 
       pub looked : (marks : List ℕ) (seen : Seen) (r : Field.Reading) → Viewed (s .m) n words marks seen →
-          r ≡ Field.read (2 ^ s .m - 1) (firstOf s) (countsOf s) (rangesOf s) (fieldGroups s n words) → Looked s bs words n (seen .zeros) r
+          r ≡ readIn s (fieldGroups s n words) → Looked s bs words n (seen .zeros) r
       looked marks seen r W k = record { holds = loaded-holds; same = loaded-groups; none = W .blank ∙ same-zeros G loaded-holds; read = k }
 
-    pub reads-as : {words : List ℕ} {n z : ℕ} (r : Field.Reading) → Looked s bs words n z r → answerOf s r ≡ readReply s bs
+    pub reads-as : {words : List ℕ} {n z : ℕ} (r : Field.Reading) → Looked s bs words n z r → answerOf (s .form) (s .t) r ≡ readReply s bs
     unfolding fieldRead readCells widthOf numberless miscounts exceeds generation holds left
     reads-as r K = go r (sym (K .read ∙ rw (K .same)))
       where
@@ -218,7 +220,7 @@ module _ {s : Shape} {h : List ℕ} (G : Granted s h) (bs : List ℕ) where
         old-or-new true b e = sym (read-found s bs (G .ok) f Field.blank e (rw b) refl refl)
         old-or-new false b e = sym (read-none s bs (G .ok) f (rw (e, b)))
 
-        go : (r : Field.Reading) → fieldRead s bs ≡ r → answerOf s r ≡ readReply s bs
+        go : (r : Field.Reading) → fieldRead s bs ≡ r → answerOf (s .form) (s .t) r ≡ readReply s bs
         go Field.blank e = old-or-new (eqb (s .form) 0) refl e
         go (Field.reads i x) e = sym (read-found s bs (G .ok) f (Field.reads i x) e refl refl refl)
         go (Field.miscounted i u) e = sym (read-miscounted s bs (G .ok) f i u e)

@@ -40,8 +40,8 @@ module _ {hs : List ℕ} {z n : ℕ} (P : Passing hs z n) where
   passing-last l = P .total ∙ rw (drop-cons hs n 0 (P .below), drop-of-length-le hs l, le-leb 0 z (omega arith)) (add-zero n)
 
 -- past the sixteenth place there is no count
-pub none-behind : (s : Shape) (n : ℕ) (h : List ℕ) → Granted s h → s .t ≤ n → getD (countsOf s) n 0 ≡ 0
-none-behind s n h G l = List·getD-eq-default (countsOf s) 0 {n = n} (omega (arith, G .many))
+pub none-behind : {s : Shape} {h : List ℕ} → Granted s h → getD h 16 0 ≡ 0
+none-behind {s} G = G .each 16 ∙ List·getD-eq-default (countsOf s) 0 {n = 16} (omega (arith, G .many, G .bounds .t-high))
 
 -- the first place, and a later one
 pub base-first : (e n : ℕ) → n ≡ 0 → e ≡ base e n

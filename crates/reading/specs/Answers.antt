@@ -1,13 +1,13 @@
 -- The answers of read as replies, and what the functions between them cite.
 use Prim.Native.Nat.{ℕ, suc, _*_, _-_, _^_, _<_, _≤_}
 use mathlib.Core.Path.{_≡_}
-use mathlib.Core.Bool.{cond}
+use mathlib.Core.Bool.{true, cond}
 use mathlib.Core.List.{List, [], _∷_, _++_}
 use lib.Dec.{eqb}
 use lib.ListN.{length, take, replicate}
 use Rattle.code.specs.declared.Shape.{Shape}
 use Rattle.code.specs.Shape.{firstOf, rangesOf, orderOf, countsOf, widthOf}
-use Rattle.code.specs.Cells.{opened}
+use Rattle.code.specs.Cells.{opened, sound}
 use Rattle.code.specs.Field as Field
 use Rattle.words.specs.Words.{wordGroups, Tidy, frontGroups}
 use Rattle.words.specs.Marks.{Ends}
@@ -44,12 +44,23 @@ foundOf (Number i x) = Field.reads i x
 foundOf (Miscounted i u) = Field.miscounted i u
 foundOf (Beyond i) = Field.beyond i
 
--- what is answered for a reading
-abbrev pub answerOf : Shape → Field.Reading → List ℕ
-answerOf s Field.blank = cond (eqb (s .form) 0) (0 ∷ 1 ∷ 0 ∷ s .t ∷ []) (11 ∷ [])
-answerOf s (Field.reads i x) = 0 ∷ i ∷ x ∷ (s .t - i) ∷ []
-answerOf s (Field.miscounted i u) = 15 ∷ i ∷ u ∷ []
-answerOf s (Field.beyond i) = 16 ∷ i ∷ []
+-- what is answered for a reading, by the form and t
+abbrev pub answerOf : ℕ → ℕ → Field.Reading → List ℕ
+answerOf form t Field.blank = cond (eqb form 0) (0 ∷ 1 ∷ 0 ∷ t ∷ []) (11 ∷ [])
+answerOf form t (Field.reads i x) = 0 ∷ i ∷ x ∷ (t - i) ∷ []
+answerOf form t (Field.miscounted i u) = 15 ∷ i ∷ u ∷ []
+answerOf form t (Field.beyond i) = 16 ∷ i ∷ []
+
+-- what groups read as by the layout of a shape, and at a place of it
+abbrev pub judgedIn : Shape → List ℕ → ℕ → Field.Reading
+judgedIn s gs i = Field.judged (2 ^ s .m - 1) (firstOf s) (countsOf s) (rangesOf s) gs i
+
+abbrev pub readIn : Shape → List ℕ → Field.Reading
+readIn s gs = Field.read (2 ^ s .m - 1) (firstOf s) (countsOf s) (rangesOf s) gs
+
+-- cells that refusal 3 is not for
+abbrev pub SoundCells : Shape → List ℕ → Type 0
+SoundCells s bs = sound (orderOf s) (s .m) (widthOf s) bs ≡ true
 
 -- the groups of a field in the first n words
 abbrev pub fieldGroups : Shape → ℕ → List ℕ → List ℕ
@@ -68,7 +79,7 @@ pub record Looked (s : Shape) (bs words : List ℕ) (n z : ℕ) (r : Field.Readi
   pub holds : Holds s n words
   pub same : fieldGroups s n words ≡ opened (orderOf s) (s .m) (widthOf s) bs
   pub none : z ≡ Field.zeros (fieldGroups s n words)
-  pub read : r ≡ Field.read (2 ^ s .m - 1) (firstOf s) (countsOf s) (rangesOf s) (fieldGroups s n words)
+  pub read : r ≡ readIn s (fieldGroups s n words)
 
 -- r tells the number y, as far as 2^56
 pub record Close (y r : ℕ) : Type 0 where

@@ -1,14 +1,13 @@
 // Reading one field: document 01, "Reading", with the refusals in the table's order.
+use code::Frame;
 use code::Shape;
 use layout::Plan;
 use words::Seen;
 ghost use mathlib.Core.Path.{_≡_};
-ghost use mathlib.Core.Bool.{true};
 ghost use mathlib.Core.List.{List};
 ghost use Prim.Native.Nat.{ℕ, suc, _+_, _-_, _^_, _<_, _≤_};
 ghost use lib.ListN.{length, getD, take};
-ghost use Rattle.code.specs.Shape.{firstOf, rangesOf, orderOf, countsOf, widthOf};
-ghost use Rattle.code.specs.Cells.{sound};
+ghost use Rattle.code.specs.Shape.{framed, firstOf, countsOf};
 ghost use Rattle.code.specs.Deal.{written, number, plain};
 ghost use Rattle.code.specs.Chosen.{patternMost};
 ghost use Rattle.code.specs.Field as Field;
@@ -17,7 +16,7 @@ ghost use Rattle.counting.specs.Cap.{sat};
 ghost use Rattle.words.specs.Words.{frontAt};
 ghost use Rattle.words.specs.Marks.{Viewed, Pickable};
 ghost use Rattle.layout.specs.Plan.{Planned, Granted};
-ghost use Rattle.reading.specs.Answers.{refusalOf, refusalFieldsOf, readFieldsOf, readingOf, foundOf, answerOf, fieldGroups, Holds, Looked, Close, Ranged};
+ghost use Rattle.reading.specs.Answers.{refusalOf, refusalFieldsOf, readFieldsOf, readingOf, foundOf, answerOf, judgedIn, readIn, SoundCells, fieldGroups, Holds, Looked, Close, Ranged};
 
 // A refusal: its number alone, or 15 and 16 with what they carry.
 pub enum Refusal {
@@ -76,9 +75,9 @@ fn past(h: &[u64; 16], t: usize, z: u64) -> usize
 }
 
 // The count of the generation after place i, 0 after the last.
-pub fn next_count(h: &[u64; 16], s: Shape, i: usize) -> u64
-    requires { ⌜ (Granted s (now h)) × (i < 16) ⌝ }
-    ensures { λ r. ⌜ r ≡ getD (countsOf s) (suc i) 0 ⌝ }
+pub fn next_count(h: &[u64; 16], i: usize) -> u64
+    requires { ⌜ (getD (now h) 16 0 ≡ 0) × (i < 16) ⌝ }
+    ensures { λ r. ⌜ r ≡ getD (now (h .entry)) (suc i) 0 ⌝ }
 {
     if i == 15 {
         return 0;
@@ -94,10 +93,10 @@ pub fn base(e: u64, i: usize) -> u64
     if i == 0 { e } else { e - 1 }
 }
 
-pub fn fewest(s: Shape, i: usize) -> u64
-    ensures { λ r. ⌜ (r ≡ Field.fewest (firstOf s) i) × (r ≤ 1) ⌝ }
+pub fn fewest(f: Frame, i: usize) -> u64
+    ensures { λ r. ⌜ ((v : List ℕ) → r ≡ Field.fewest (firstOf (framed f v)) i) × (r ≤ 1) ⌝ }
 {
-    if i == 0 { layout::first(s) } else { 1 }
+    if i == 0 { layout::first(f) } else { 1 }
 }
 
 // The number of a pattern in the marked groups.
@@ -176,61 +175,70 @@ fn ranged(i: usize, v: u64, x: u64) -> Found
 // What groups read as at place i whose marked ones are its places, as many as it has.
 fn judge_at(
     h: &[u64; 16],
-    s: Shape,
+    f: Frame,
+    v: &[u64; 16],
     words: &[u64; 16],
     marks: &[u64; 16],
     n: usize,
     i: usize,
 ) -> Found
-    requires { ⌜ (Granted s (now h)) × (i < s .t) × (Pickable (s .m) n (now words) (now marks)) ⌝ }
-    requires { ⌜ (length (frontAt (s .m) n (now marks) (now words)) ≡ getD (countsOf s) i 0) × (getD (countsOf s) (suc i) 0 ≤ Field.zeros (frontAt (s .m) n (now marks) (now words))) ⌝ }
-    ensures { λ r. ⌜ ((gs : List ℕ) → Field.carriers (2 ^ s .m - 1) i gs ≡ frontAt (s .m) n (now (marks .entry)) (now (words .entry)) → foundOf r ≡ Field.judged (2 ^ s .m - 1) (firstOf s) (countsOf s) (rangesOf s) gs i) ⌝ }
+    requires { ⌜ (Granted (framed f (now v)) (now h)) × (i < f .t) × (Pickable (f .m) n (now words) (now marks)) ⌝ }
+    requires { ⌜ (length (frontAt (f .m) n (now marks) (now words)) ≡ getD (countsOf (framed f (now v))) i 0) × (getD (countsOf (framed f (now v))) (suc i) 0 ≤ Field.zeros (frontAt (f .m) n (now marks) (now words))) ⌝ }
+    ensures { λ r. ⌜ ((gs : List ℕ) → Field.carriers (2 ^ f .m - 1) i gs ≡ frontAt (f .m) n (now (marks .entry)) (now (words .entry)) → foundOf r ≡ judgedIn (framed f (now (v .entry))) gs i) ⌝ }
 {
-    let e = layout::all_ones(s.m);
-    let next = next_count(h, s, i);
+    let e = layout::all_ones(f.m);
+    let next = next_count(h, i);
     let x = tell(
         words,
         marks,
         n,
-        s.m as usize,
+        f.m as usize,
         h[i],
         e,
         base(e, i),
-        fewest(s, i),
+        fewest(f, i),
         next,
     );
-    ranged(i, s.v, x)
+    ranged(i, layout::range_at(f, v, i), x)
 }
 
 // Generation 1: all groups of the field are its places.
-fn judge_first(h: &[u64; 16], s: Shape, words: &[u64; 16], n: usize, marks: &mut [u64; 16]) -> Found
-    requires { ⌜ (Granted s (now h)) × (Holds s n (now words)) × (length (now marks) ≡ 16) × (getD (countsOf s) 1 0 ≤ Field.zeros (fieldGroups s n (now words))) ⌝ }
-    ensures { λ r. ⌜ foundOf r ≡ Field.judged (2 ^ s .m - 1) (firstOf s) (countsOf s) (rangesOf s) (fieldGroups s n (now (words .entry))) 0 ⌝ }
+fn judge_first(
+    h: &[u64; 16],
+    f: Frame,
+    v: &[u64; 16],
+    words: &[u64; 16],
+    n: usize,
+    marks: &mut [u64; 16],
+) -> Found
+    requires { ⌜ (Granted (framed f (now v)) (now h)) × (Holds (framed f (now v)) n (now words)) × (length (now marks) ≡ 16) × (getD (countsOf (framed f (now v))) 1 0 ≤ Field.zeros (fieldGroups (framed f (now v)) n (now words))) ⌝ }
+    ensures { λ r. ⌜ foundOf r ≡ judgedIn (framed f (now (v .entry))) (fieldGroups (framed f (now (v .entry))) n (now (words .entry))) 0 ⌝ }
     ensures { λ _. ⌜ length (now (marks .exit)) ≡ 16 ⌝ }
 {
-    words::mark_all(n, s.m as usize, h[0] as usize, marks);
-    judge_at(h, s, words, marks, n, 0)
+    words::mark_all(n, f.m as usize, h[0] as usize, marks);
+    judge_at(h, f, v, words, marks, n, 0)
 }
 
 // What the field's groups in words read as, of which is seen how many are zero and which are not erased.
 fn judge(
     h: &[u64; 16],
-    s: Shape,
+    f: Frame,
+    v: &[u64; 16],
     words: &[u64; 16],
     n: usize,
     marks: &mut [u64; 16],
     seen: Seen,
 ) -> Found
-    requires { ⌜ (Granted s (now h)) × (Holds s n (now words)) × (Viewed (s .m) n (now words) (now marks) seen) ⌝ }
-    ensures { λ r. ⌜ foundOf r ≡ Field.read (2 ^ s .m - 1) (firstOf s) (countsOf s) (rangesOf s) (fieldGroups s n (now (words .entry))) ⌝ }
+    requires { ⌜ (Granted (framed f (now v)) (now h)) × (Holds (framed f (now v)) n (now words)) × (Viewed (f .m) n (now words) (now marks) seen) ⌝ }
+    ensures { λ r. ⌜ foundOf r ≡ readIn (framed f (now (v .entry))) (fieldGroups (framed f (now (v .entry))) n (now (words .entry))) ⌝ }
     ensures { λ _. ⌜ length (now (marks .exit)) ≡ 16 ⌝ }
 {
     if seen.zeros == h[0] {
         return Found::Blank;
     }
-    let i = past(h, s.t as usize, seen.zeros);
+    let i = past(h, f.t as usize, seen.zeros);
     if i == 0 {
-        return judge_first(h, s, words, n, marks);
+        return judge_first(h, f, v, words, n, marks);
     }
     if seen.unerased != h[i] {
         return Found::Miscounted {
@@ -238,7 +246,7 @@ fn judge(
             unerased: seen.unerased,
         };
     }
-    judge_at(h, s, words, marks, n, i)
+    judge_at(h, f, v, words, marks, n, i)
 }
 
 // The writes left of t after generation i.
@@ -249,29 +257,29 @@ fn writes_left(t: u64, i: u64) -> u64
 }
 
 // Cells that were never written: in form 0 they have generation 1, number 0 and all their writes left, and else no number.
-fn answer_blank(s: Shape) -> Reading
-    ensures { λ r. ⌜ readingOf r ≡ answerOf s Field.blank ⌝ }
+fn answer_blank(f: Frame) -> Reading
+    ensures { λ r. ⌜ readingOf r ≡ answerOf (f .form) (f .t) Field.blank ⌝ }
 {
-    if s.form != 0 {
+    if f.form != 0 {
         return Reading::Refused(Refusal::Plain(11));
     }
     Reading::Read {
         generation: 1,
         number: 0,
-        left: s.t,
+        left: f.t,
     }
 }
 
 // A reading as it is answered.
-fn answer(found: Found, s: Shape) -> Reading
-    ensures { λ r. ⌜ readingOf r ≡ answerOf s (foundOf found) ⌝ }
+fn answer(found: Found, f: Frame) -> Reading
+    ensures { λ r. ⌜ readingOf r ≡ answerOf (f .form) (f .t) (foundOf found) ⌝ }
 {
     match found {
-        Found::Blank => answer_blank(s),
+        Found::Blank => answer_blank(f),
         Found::Number { generation, number } => Reading::Read {
             generation,
             number,
-            left: writes_left(s.t, generation),
+            left: writes_left(f.t, generation),
         },
         Found::Miscounted {
             generation,
@@ -293,20 +301,21 @@ pub struct Look {
 
 pub fn look_at(
     h: &[u64; 16],
-    s: Shape,
+    f: Frame,
+    v: &[u64; 16],
     cells: &[u8],
     words: &mut [u64; 16],
     marks: &mut [u64; 16],
 ) -> Look
-    requires { ⌜ (Granted s (now h)) × (sound (orderOf s) (s .m) (widthOf s) (now cells) ≡ true) ⌝ }
+    requires { ⌜ (Granted (framed f (now v)) (now h)) × (SoundCells (framed f (now v)) (now cells)) ⌝ }
     requires { ⌜ (length (now words) ≡ 16) × (length (now marks) ≡ 16) ⌝ }
-    ensures { λ r. ⌜ Looked s (now (cells .entry)) (now (words .exit)) (r .n) (r .zeros) (foundOf (r .found)) ⌝ }
+    ensures { λ r. ⌜ Looked (framed f (now (v .entry))) (now (cells .entry)) (now (words .exit)) (r .n) (r .zeros) (foundOf (r .found)) ⌝ }
     ensures { λ _. ⌜ length (now (marks .exit)) ≡ 16 ⌝ }
 {
-    let m = s.m as usize;
-    let n = cells::load(cells, layout::order(s), m, h[0] as usize, words);
+    let m = f.m as usize;
+    let n = cells::load(cells, layout::order(f), m, h[0] as usize, words);
     let seen = words::see(words, n, m, marks);
-    let found = judge(h, s, words, n, marks, seen);
+    let found = judge(h, f, v, words, n, marks, seen);
     Look {
         n,
         zeros: seen.zeros,
@@ -315,40 +324,41 @@ pub fn look_at(
 }
 
 // The reading of a field whose layout is granted.
-fn read_granted(h: &[u64; 16], s: Shape, cells: &[u8]) -> Reading
-    requires { ⌜ Granted s (now h) ⌝ }
-    ensures { λ r. ⌜ readingOf r ≡ readReply s (now (cells .entry)) ⌝ }
+fn read_granted(h: &[u64; 16], f: Frame, v: &[u64; 16], cells: &[u8]) -> Reading
+    requires { ⌜ Granted (framed f (now v)) (now h) ⌝ }
+    ensures { λ r. ⌜ readingOf r ≡ readReply (framed f (now (v .entry))) (now (cells .entry)) ⌝ }
 {
-    if !cells::is_sound(cells, layout::order(s), s.m as usize, h[0] as usize) {
+    if !cells::is_sound(cells, layout::order(f), f.m as usize, h[0] as usize) {
         return Reading::Refused(Refusal::Plain(3));
     }
     let mut words = [0u64; 16];
     let mut marks = [0u64; 16];
-    let seen = look_at(h, s, cells, &mut words, &mut marks);
+    let seen = look_at(h, f, v, cells, &mut words, &mut marks);
     let found = seen.found;
-    answer(found, s)
+    answer(found, f)
 }
 
-// The reading of a field whose layout is worked out, with its counts in h.
-pub fn read_by(plan: Plan, h: &[u64; 16], cells: &[u8]) -> Reading
-    requires { ⌜ Planned plan (now h) ⌝ }
-    ensures { λ r. ⌜ readingOf r ≡ readReply (plan .shape) (now (cells .entry)) ⌝ }
+// The reading of a field whose layout is worked out, with its counts in h and its ranges in v.
+pub fn read_by(plan: Plan, h: &[u64; 16], v: &[u64; 16], cells: &[u8]) -> Reading
+    requires { ⌜ Planned plan (now v) (now h) ⌝ }
+    ensures { λ r. ⌜ readingOf r ≡ readReply (framed (plan .frame) (now (v .entry))) (now (cells .entry)) ⌝ }
 {
     if plan.refusal != 0 {
         return Reading::Refused(Refusal::Plain(plan.refusal));
     }
-    read_granted(h, plan.shape, cells)
+    read_granted(h, plan.frame, v, cells)
 }
 
 pub fn read(s: Shape, cells: &[u8]) -> Reading
     ensures { λ r. ⌜ readingOf r ≡ readReply s (now (cells .entry)) ⌝ }
 {
     let mut h = [0u64; 16];
-    let refusal = layout::lay_into(&mut h, s, 256);
+    let f = layout::frame(s);
+    let refusal = layout::lay_into(&mut h, f, &s.v, 256);
     if refusal != 0 {
         return Reading::Refused(Refusal::Plain(refusal));
     }
-    read_granted(&h, s, cells)
+    read_granted(&h, f, &s.v, cells)
 }
 
 pub fn flat_refusal(refusal: Refusal) -> RefusalFields

@@ -4,25 +4,21 @@ use mathlib.Core.Bool.{true, false}
 use mathlib.Core.List.{List, [], _∷_}
 use Prim.Native.Nat.{ℕ, zero, suc, _-_, _≤_, _<_}
 use native.Mathlib.Omega.{arith}
-use lib.ListN.{length, getD, drop}
-use lib.Seq.{getD-drop}
+use lib.ListN.{length, getD, List·getD-eq-default}
 use borrow.Author.Tests.{le-leb, lt-leb}
 use Rattle.code.specs.Numerals as Numerals
 use Rattle.code.specs.Numerals.{readNumbers}
-use Rattle.code.specs.declared.Shape.{Shape}
 use Rattle.code.specs.Shape.{shaped}
-use Rattle.code.specs.LayoutList.{Listed, unlisted, listedBy, listedShape}
+use Rattle.code.specs.Calls.{filled}
+use Rattle.code.specs.LayoutList.{Listed, unlisted, listedShape}
 use Rattle.code.specs.Dump.{Source, headLength, listedLayouts, outOfList, taken, stopped, recordBy, broken, recordAt}
 use Rattle.code.proofs.Walk.{numbers-within}
 use Rattle.code.proofs.Records.{record-off, record-found, record-short}
 use Rattle.numerals.specs.Number.{numbersOf}
 use Rattle.numerals.specs.declared.Numbers.{Numbers}
 use Rattle.numerals.specs.declared.Numbers.the-variants.{Read, Cut}
-use Rattle.records.specs.Source.{listedFrom, layoutAt, layoutsAt}
-
--- the shape of four numbers
-abbrev four : List ℕ → Shape
-four xs = record { form = getD xs 0 0; m = getD xs 1 0; t = getD xs 2 0; v = getD xs 3 0 }
+use Rattle.records.specs.Head.{saidShape, headRecord}
+use Rattle.records.specs.Source.{layoutAt, layoutsAt}
 
 module _ (source : Source) (bytes : List ℕ) (at : ℕ) (xs : List ℕ) {r : Numbers} (read : numbersOf xs r ≡ readNumbers (suc (headLength source)) bytes at) where
   pub head-cut : r ≡ Cut → stopped 7 (at ∷ []) ≡ recordAt source bytes at (readNumbers (suc (headLength source)) bytes at)
@@ -48,19 +44,6 @@ module _ (source : Source) (bytes : List ℕ) (at : ℕ) (xs : List ℕ) {r : Nu
           taken (recordBy source xs end) ≡ recordAt source bytes at (readNumbers (suc (headLength source)) bytes at)
       head-whole h = sym (record-found source bytes at xs end o h) ∙ ap (recordAt source bytes at) told
 
--- the shape of the numbers at a place
-module _ (bytes : List ℕ) (place : ℕ) (xs : List ℕ) {r : Numbers} (read : numbersOf xs r ≡ readNumbers 4 bytes place) where
-  pub shape-told : {end : ℕ} → r ≡ Read end → four xs ≡ listedShape (layoutAt bytes place)
-  unfolding listedShape listedBy layoutAt
-  shape-told {end} e =
-      let last : getD (drop 3 xs) 0 0 ≡ getD xs 3 0 = getD-drop 3 xs 0 0 in
-      let is : listedShape (listedBy xs) ≡ listedShape (layoutAt bytes place) = ap (λ ns. listedShape (listedFrom ns)) (ap (numbersOf xs) (sym e) ∙ read) in
-      (λ i. record { form = getD xs 0 0; m = getD xs 1 0; t = getD xs 2 0; v = sym last i }) ∙ is
-
-  pub shape-none : r ≡ Cut → shaped 0 0 0 ≡ listedShape (layoutAt bytes place)
-  unfolding listedShape layoutAt
-  shape-none e = ap (λ ns. listedShape (listedFrom ns)) (ap (numbersOf xs) (sym e) ∙ read)
-
 module _ (bytes : List ℕ) where
   -- layouts by their places are as many as the places
   pub layouts-many : (places : List ℕ) → length (layoutsAt bytes places) ≡ length places
@@ -83,8 +66,15 @@ module _ (bytes : List ℕ) where
     unfolding outOfList
     on-list h = lt-leb (length (layoutsAt bytes places)) (getD xs 1 0) (omega (arith, layouts-many places))
 
--- a record whose shape is that of its layout
-pub listed-record : (ls : List Listed) (xs : List ℕ) (start : ℕ) (s : Shape) → s ≡ listedShape (getD ls (getD xs 1 0) unlisted) →
-    taken record { serial = getD xs 0 0; layout = getD xs 1 0; shape = s; start = start; count = getD xs 2 0 } ≡ taken (recordBy (listedLayouts ls) xs start)
-unfolding recordBy
-listed-record ls xs start s e = ap taken (λ i. record { serial = getD xs 0 0; layout = getD xs 1 0; shape = e i; start = start; count = getD xs 2 0 })
+-- what a record of a new dump says is a number of the list
+pub listed-record : (ls : List Listed) (xs : List ℕ) (start : ℕ) →
+    taken (headRecord (listedLayouts ls) (record { serial = getD xs 0 0; said = record { layout = getD xs 1 0; m = 0; t = 0; v = 0 }; start = start; count = getD xs 2 0 }))
+    ≡ taken (recordBy (listedLayouts ls) xs start)
+unfolding recordBy saidShape
+listed-record ls xs start = refl
+
+-- a number that the list has not stands for no layout
+pub none-listed : (bytes places : List ℕ) (number : ℕ) → length places ≤ number → shaped 0 0 0 ≡ listedShape (getD (layoutsAt bytes places) number unlisted)
+unfolding listedShape filled
+none-listed bytes places number h =
+    rw (List·getD-eq-default (layoutsAt bytes places) unlisted {n = number} (omega (arith, layouts-many bytes places)))

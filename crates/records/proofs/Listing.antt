@@ -10,12 +10,16 @@ use lib.Seq.{take-suc-set}
 use borrow.Author.Tests.{lt-ltb, le-ltb}
 use Rattle.code.specs.Numerals as Numerals
 use Rattle.code.specs.Numerals.{readNumbers}
-use Rattle.code.specs.LayoutList.{Listed, listedBy, Layouts, brokenList, layouts, ledLayouts, readLayouts, countedLayouts, layoutList}
-use Rattle.code.proofs.Walk.{numbers-ahead, numbers-within}
+use Rattle.code.specs.LayoutList.{Listed, listedBy, Layouts, brokenList, layouts, ledLayouts, readLayout, readLayouts, countedLayouts, layoutList}
+use Rattle.code.specs.declared.Frame.{Frame}
+use Rattle.code.proofs.LayoutLists.{layouts-one, layouts-cut, layout-further}
 use Rattle.numerals.specs.Number.{numbersOf}
 use Rattle.numerals.specs.declared.Numbers.{Numbers}
 use Rattle.numerals.specs.declared.Numbers.the-variants.{Read, Cut}
+use Rattle.records.specs.declared.list.LayoutThere.{LayoutThere}
+use Rattle.records.specs.declared.list.LayoutThere.the-variants.{Whole, Broken}
 use Rattle.records.specs.Source.{layoutAt, layoutsAt}
+use Rattle.records.specs.List.{thereOf, LayoutRead}
 
 -- layouts that are read one after the other, led by those of the first places
 unfoldable pub ledBy : List Listed → Layouts → Layouts
@@ -56,26 +60,27 @@ module _ {count : ℕ} {bytes : List ℕ} {at : ℕ} {places : List ℕ} {next i
   left : i < count → count - i ≡ suc (count - suc i)
   left l = omega arith
 
-  module _ (xs : List ℕ) {r : Numbers} (read : numbersOf xs r ≡ readNumbers 4 bytes next) where
-    pub listing-broken : i < count → r ≡ Cut → brokenList ≡ readLayouts count bytes at
-    unfolding readLayouts
+  module _ (before v : List ℕ) {r : LayoutThere} (read : LayoutRead bytes next before v r) where
+    pub listing-broken : i < count → r ≡ Broken → brokenList ≡ readLayouts count bytes at
     listing-broken l e =
-        let none : readNumbers 4 bytes next ≡ Numerals.cut = sym (ap (numbersOf xs) (sym e) ∙ read) in
-        let turn : readLayouts (suc (count - suc i)) bytes next ≡ brokenList = rw (none, readLayouts) in
-        rw (h .reads, left l, turn, led-broken)
+        let none : readLayout bytes next ≡ Numerals.cut = sym (ap (thereOf v) (sym e) ∙ read .reads) in
+        rw (h .reads, left l, layouts-cut (count - suc i) bytes next none, led-broken)
 
-    module _ {end : ℕ} (e : r ≡ Read end) where
-      some : readNumbers 4 bytes next ≡ Numerals.numbers xs end
-      some = sym (ap (numbersOf xs) (sym e) ∙ read)
+    module _ (f : Frame) {end : ℕ} (e : r ≡ Whole f end) where
+      abbrev xs : List ℕ
+      xs = f .form ∷ f .m ∷ f .t ∷ take (f .count) v
+
+      some : readLayout bytes next ≡ Numerals.numbers xs end
+      some = sym (ap (thereOf v) (sym e) ∙ read .reads)
 
       -- its place is one of the dump
       pub listing-place : length bytes ≤ 65536 → next < 65536
-      listing-place short = omega (arith, numbers-ahead 4 bytes next xs end some .further, numbers-within 3 bytes next xs end some)
+      listing-place short = omega (arith, layout-further bytes next xs end some)
 
       pub listing-next : i < count → i < 64 → Listing count bytes at (set places i next) end (i + 1)
-      unfolding readLayouts layoutsAt layoutAt
+      unfolding layoutsAt layoutAt
       listing-next l k =
-          let turn : readLayouts (suc (count - suc i)) bytes next ≡ ledLayouts (listedBy xs) (readLayouts (count - suc i) bytes end) = rw (some, readLayouts) in
+          let turn = layouts-one (count - suc i) bytes next xs end some in
           let one : layoutsAt bytes (next ∷ []) ≡ listedBy xs ∷ [] = rw some in
           record {
             long = length-set places i next ∙ h .long;

@@ -3,8 +3,8 @@ use Prim.Native.Nat.{ℕ}
 use mathlib.Core.List.{List, [], _∷_}
 use Rattle.code.specs.declared.Kind.{Kind}
 use Rattle.code.specs.declared.Kind.the-variants.{Old, New}
-use Rattle.code.specs.Numerals.{Numbers, cut, numbers, readNumbers}
-use Rattle.code.specs.LayoutList.{Listed, unlisted, listedBy}
+use Rattle.code.specs.Numerals.{Numbers, cut, numbers}
+use Rattle.code.specs.LayoutList.{Listed, unlisted, listedBy, readLayout}
 use Rattle.code.specs.Dump.{Source, ownLayouts, listedLayouts}
 
 abbrev pub listedFrom : Numbers → Listed
@@ -13,7 +13,7 @@ listedFrom (numbers xs end) = listedBy xs
 
 -- the layout whose numbers stand at a place
 unfoldable pub layoutAt : List ℕ → ℕ → Listed
-layoutAt bytes place = listedFrom (readNumbers 4 bytes place)
+layoutAt bytes place = listedFrom (readLayout bytes place)
 
 unfoldable pub layoutsAt : List ℕ → List ℕ → List Listed
 layoutsAt bytes [] = []

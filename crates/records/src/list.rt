@@ -1,4 +1,5 @@
 // Document 02, §3, "Layouts said once": the layout list of a new dump, kept by the places of its layouts.
+use code::Frame;
 use code::Shape;
 use numerals::Numbers;
 ghost use mathlib.Core.Path.{_≡_};
@@ -6,7 +7,8 @@ ghost use Prim.Native.Nat.{_≤_};
 ghost use lib.ListN.{length};
 ghost use Rattle.code.specs.LayoutList.{listedShape, readLayouts, layoutList};
 ghost use Rattle.records.specs.Source.{layoutAt};
-ghost use Rattle.records.specs.List.{ListRead};
+ghost use Rattle.code.specs.Shape.{shaped};
+ghost use Rattle.records.specs.List.{RangesSaid, RangesRead, LayoutRead, ListRead};
 
 // The most layouts of a list.
 pub const LAYOUTS_MOST: usize = 64;
@@ -17,24 +19,89 @@ pub enum LayoutList {
     Broken,
 }
 
+// The layout at a place but for its ranges, and the place behind it.
+enum LayoutThere {
+    Whole { frame: Frame, end: usize },
+    Broken,
+}
+
+// How many ranges follow form, m and t, 0 where a dump cannot say it: 02, §7, "t outside 2 to 16 here is a broken layout list".
+fn ranges_said(numbers: &[u64; 3]) -> usize
+    ensures { λ r. ⌜ RangesSaid (now (numbers .entry)) r ⌝ }
+{
+    if numbers[0] != 2 {
+        return 1;
+    }
+    let t = numbers[2];
+    if t < 2 {
+        return 0;
+    }
+    if 16 < t {
+        return 0;
+    }
+    t as usize
+}
+
+// Reads so many ranges from a place on to the front of v.
+fn read_ranges(dump: &[u8], at: usize, v: &mut [u64], count: usize) -> Numbers
+    requires { ⌜ count ≤ length (now v) ⌝ }
+    ensures { λ r. ⌜ RangesRead (now (dump .entry)) at count (now (v .entry)) (now (v .exit)) r ⌝ }
+{
+    numerals::read_numbers(dump, at, &mut v[0..count])
+}
+
+// Reads the layout at a place; its ranges go to the front of v.
+fn read_layout(dump: &[u8], at: usize, v: &mut [u64]) -> LayoutThere
+    requires { ⌜ length (now v) ≡ 16 ⌝ }
+    ensures { λ r. ⌜ LayoutRead (now (dump .entry)) at (now (v .entry)) (now (v .exit)) r ⌝ }
+{
+    let mut numbers = [0u64; 3];
+    let Numbers::Read { end } = numerals::read_numbers(dump, at, &mut numbers) else {
+        return LayoutThere::Broken;
+    };
+    let count = ranges_said(&numbers);
+    if count == 0 {
+        return LayoutThere::Broken;
+    }
+    let Numbers::Read { end: behind } = read_ranges(dump, end, v, count) else {
+        return LayoutThere::Broken;
+    };
+    let frame = Frame {
+        form: numbers[0],
+        m: numbers[1],
+        t: numbers[2],
+        count: count as u64,
+    };
+    LayoutThere::Whole { frame, end: behind }
+}
+
 // The shape of the layout that stands at a place, of zeros where none does.
 pub fn shape_at(dump: &[u8], place: usize) -> Shape
     ensures { λ r. ⌜ r ≡ listedShape (layoutAt (now (dump .entry)) place) ⌝ }
 {
-    let mut numbers = [0u64; 4];
-    match numerals::read_numbers(dump, place, &mut numbers) {
-        Numbers::Read { end } => Shape {
-            form: numbers[0],
-            m: numbers[1],
-            t: numbers[2],
-            v: numbers[3],
+    let mut v = [0u64; 16];
+    match read_layout(dump, place, &mut v) {
+        LayoutThere::Whole { frame, end: _ } => Shape {
+            form: frame.form,
+            m: frame.m,
+            t: frame.t,
+            count: frame.count,
+            v,
         },
-        Numbers::Cut => Shape {
-            form: 0,
-            m: 0,
-            t: 0,
-            v: 0,
-        },
+        LayoutThere::Broken => no_layout(),
+    }
+}
+
+// The shape that stands for a layout which is none.
+pub fn no_layout() -> Shape
+    ensures { λ r. ⌜ r ≡ shaped 0 0 0 ⌝ }
+{
+    Shape {
+        form: 0,
+        m: 0,
+        t: 0,
+        count: 1,
+        v: [0u64; 16],
     }
 }
 
@@ -45,14 +112,18 @@ fn read_places(dump: &[u8], at: usize, count: usize, places: &mut [u16; LAYOUTS_
 {
     let mut start = at;
     let mut i = 0;
+    let mut v = [0u64; 16];
     while i < count {
-        let mut numbers = [0u64; 4];
-        let Numbers::Read { end } = numerals::read_numbers(dump, start, &mut numbers) else {
-            return LayoutList::Broken;
-        };
-        places[i] = start as u16;
-        start = end;
-        i += 1;
+        match read_layout(dump, start, &mut v) {
+            LayoutThere::Whole { frame: _, end } => {
+                places[i] = start as u16;
+                start = end;
+                i += 1;
+            }
+            LayoutThere::Broken => {
+                return LayoutList::Broken;
+            }
+        }
     }
     LayoutList::Whole { start, count }
 }

@@ -122,17 +122,23 @@ module _ (s : Shape) (ok : layoutRefusal s 256 ≡ []) (xs : List ℕ) (cells : 
   cells-are zero l = C .blank
   cells-are (suc j) l = C .each j (omega arith) .1 ∙ rw (cells-are j (omega arith), run-more (writeLeaves s) (Code.blankCells s) xs j (omega arith))
 
-  -- Call j, the first being call 0, is accepted exactly when j + 1 less the zeros that open the sequence is at most t.
-  pub accepted-exactly : (j : ℕ) → Below (s .v) xs → j < length xs → accepts (answers j) ≡ leb (suc j - opening (firstOf s) xs) (s .t)
-  accepted-exactly j b l =
-      accepts-is s (getD xs j 0) (cells j) (answers j) (C .each j l .0)
-      ∙ rw (cells-are j (omega arith)) (Code.accepted-exactly s ok xs j b l)
+  passes-is : (j : ℕ) → j < length xs →
+      accepts (answers j) ≡ passes (writeRefusal s (getD xs j 0) (run (writeLeaves s) (Code.blankCells s) (take j xs)))
+  passes-is j l = accepts-is s (getD xs j 0) (cells j) (answers j) (C .each j l .0) ∙ rw (cells-are j (omega arith))
+
+  -- Of the forms that have one v: call j, the first being call 0, is accepted exactly when j + 1 less the zeros that open the sequence is at most t.
+  pub accepted-exactly : (s .form ≡ 2 → ⊥) → (j : ℕ) → Below (getD (s .v) 0 0) xs → j < length xs →
+      accepts (answers j) ≡ leb (suc j - opening (firstOf s) xs) (s .t)
+  accepted-exactly one j b l = passes-is j l ∙ Code.accepted-exactly s ok one xs j b l
 
   -- 02, §2, of a new drive: call j is accepted exactly when j + 1 is at most t.
-  pub accepted-new : s .form ≡ 1 → (j : ℕ) → Below (s .v) xs → j < length xs → accepts (answers j) ≡ leb (suc j) (s .t)
-  accepted-new new j b l =
-      accepts-is s (getD xs j 0) (cells j) (answers j) (C .each j l .0)
-      ∙ rw (cells-are j (omega arith)) (Code.accepted-new s ok new xs j b l)
+  pub accepted-new : s .form ≡ 1 → (j : ℕ) → Below (getD (s .v) 0 0) xs → j < length xs → accepts (answers j) ≡ leb (suc j) (s .t)
+  accepted-new new j b l = passes-is j l ∙ Code.accepted-new s ok new xs j b l
+
+  -- 02, §7, of a range for each generation: the same, where every number that a generation would take is below its range.
+  pub accepted-listed : s .form ≡ 2 → (j : ℕ) → ((k : ℕ) → k < length xs → k < s .t → getD xs k 0 < getD (rangesOf s) k 0) → j < length xs →
+      accepts (answers j) ≡ leb (suc j) (s .t)
+  accepted-listed two j f l = passes-is j l ∙ Code.accepted-listed s ok two xs j f l
 
   are-bytes : (j : ℕ) → j ≤ length xs → Bytes (cells j)
   are-bytes zero l =

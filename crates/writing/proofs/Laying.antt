@@ -19,7 +19,7 @@ use Rattle.cells.proofs.Whole.{field-front}
 use Rattle.words.specs.Marks.{Erased, Layered}
 use Rattle.layout.specs.Plan.{Granted}
 use Rattle.reading.specs.Answers.{fieldGroups, Holds}
-use Rattle.writing.specs.Answers.{Ready, Carries}
+use Rattle.writing.specs.Answers.{afterIn, Ready, Carries}
 use Rattle.reading.proofs.Judging.{full}
 
 -- a dealt pattern has so many places, of values up to b
@@ -59,7 +59,7 @@ module _ {s : Shape} {h : List ℕ} (G : Granted s h) {n : ℕ} {words : List �
     -- what is laid into them makes the groups that the rules leave
     pub laid-over : (x : ℕ) (ps after : List ℕ) →
         ps ≡ Field.pattern (2 ^ s .m - 1) (Field.base (2 ^ s .m - 1) i) (Field.fewest (firstOf s) i) (getD (countsOf s) i 0) (getD (countsOf s) (suc i) 0) x →
-        Layered (s .m) n ps erased after → Carries s n (Field.after (2 ^ s .m - 1) (firstOf s) (countsOf s) i x (fieldGroups s n words)) after
+        Layered (s .m) n ps erased after → Carries s n (afterIn s i x (fieldGroups s n words)) after
     laid-over x ps after q L =
         let gs = fieldGroups s n words in
         let k = z - getD h i 0 in
@@ -69,7 +69,7 @@ module _ {s : Shape} {h : List ℕ} (G : Granted s h) {n : ℕ} {words : List �
         ∙ rw (full G H) (lay-padded (2 ^ s .m - 2) (wordGroups (s .m) * n - widthOf s) (Field.erase (suc (2 ^ s .m - 2)) k gs) ps) in
         let long : length (Field.lay cleared ps) ≡ widthOf s = lay-length cleared ps ∙ erase-length (2 ^ s .m - 1) k gs ∙ H .many in
         let rules = after-erased s (G .ok) i x gs (code-ready i refl) (H .many) in
-        let q′ : Field.lay cleared ps ≡ Field.after (2 ^ s .m - 1) (firstOf s) (countsOf s) i x gs = sym (rules ∙ rw (← q, ← R .none, ← G .each i)) in
+        let q′ : Field.lay cleared ps ≡ afterIn s i x gs = sym (rules ∙ rw (← q, ← R .none, ← G .each i)) in
         record { long = L .long; many = ap length (sym q′) ∙ long; behind = pad; made = made ∙ ap (λ l. l ++ pad) q′ }
 
 -- what is stored of the words is the field's groups

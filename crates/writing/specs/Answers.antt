@@ -1,12 +1,12 @@
 -- The answers of write as replies, and what the functions between them cite.
-use Prim.Native.Nat.{ℕ, _≤_}
+use Prim.Native.Nat.{ℕ, _-_, _^_, _≤_}
 use mathlib.Core.Path.{_≡_}
 use mathlib.Core.Bool.{cond}
 use mathlib.Core.List.{List, [], _∷_, _++_}
 use lib.Dec.{eqb}
 use lib.ListN.{length, getD}
 use Rattle.code.specs.declared.Shape.{Shape}
-use Rattle.code.specs.Shape.{countsOf, widthOf}
+use Rattle.code.specs.Shape.{firstOf, countsOf, widthOf}
 use Rattle.code.specs.Deal.{written}
 use Rattle.code.specs.Field as Field
 use Rattle.words.specs.Words.{frontGroups}
@@ -32,6 +32,10 @@ aimAt t Field.blank = At 0
 aimAt t (Field.reads i x) = cond (eqb i t) (NotAt (Plain 5)) (At i)
 aimAt t (Field.miscounted i u) = NotAt (Miscounted i u)
 aimAt t (Field.beyond i) = NotAt (Beyond i)
+
+-- the groups that a write of x at place i leaves by the layout of a shape
+abbrev pub afterIn : Shape → ℕ → ℕ → List ℕ → List ℕ
+afterIn s i x gs = Field.after (2 ^ s .m - 1) (firstOf s) (countsOf s) i x gs
 
 -- groups that may be written at place i, z of them zero
 pub record Ready (s : Shape) (i z : ℕ) (gs : List ℕ) : Type 0 where

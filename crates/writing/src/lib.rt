@@ -1,26 +1,26 @@
 // Writing one field: document 01, "Writing", with the refusals in the table's order.
+use code::Frame;
 use code::Shape;
 use reading::Found;
 use reading::Refusal;
 ghost use mathlib.Core.Path.{_≡_};
-ghost use mathlib.Core.Bool.{true};
+ghost use mathlib.Core.Bool.{false};
 ghost use Prim.Native.Nat.{suc, _+_, _-_, _^_, _<_, _≤_};
-ghost use lib.ListN.{length};
+ghost use lib.ListN.{length, getD};
 ghost use Rattle.code.specs.Count.{fewer};
 ghost use Rattle.code.specs.Layout.{room};
-ghost use Rattle.code.specs.Shape.{firstOf, orderOf, countsOf, widthOf};
-ghost use Rattle.code.specs.Cells.{sound};
+ghost use Rattle.code.specs.Shape.{framed, rangesOf, orderOf};
 ghost use Rattle.code.specs.Deal.{deal, plainly};
 ghost use Rattle.code.specs.Chosen.{patternMost};
 ghost use Rattle.code.specs.Field as Field;
-ghost use Rattle.code.specs.Calls.{writeFields, writeReply, writeLeaves};
+ghost use Rattle.code.specs.Calls.{overRange, writeFields, writeReply, writeLeaves};
 ghost use Rattle.counting.specs.Cap.{cap};
 ghost use Rattle.words.specs.Words.{frontGroups};
 ghost use Rattle.words.specs.Marks.{ZeroMarked, Layered};
 ghost use Rattle.cells.specs.Cells.{Stored};
 ghost use Rattle.layout.specs.Plan.{Granted};
-ghost use Rattle.reading.specs.Answers.{foundOf, fieldGroups, Holds};
-ghost use Rattle.writing.specs.Answers.{writingOf, writeFieldsOf, aimAt, Ready, Carries};
+ghost use Rattle.reading.specs.Answers.{foundOf, fieldGroups, SoundCells, Holds};
+ghost use Rattle.writing.specs.Answers.{writingOf, writeFieldsOf, aimAt, afterIn, Ready, Carries};
 
 pub enum Writing {
     Written { generation: u64, turned: u64 },
@@ -134,7 +134,8 @@ fn lay_number(
 // Erases what was used and what is spare, z groups being zero, and lays the pattern of x at place i.
 fn erase_and_lay(
     h: &[u64; 16],
-    s: Shape,
+    f: Frame,
+    v: &[u64; 16],
     i: usize,
     x: u64,
     z: u64,
@@ -142,15 +143,15 @@ fn erase_and_lay(
     n: usize,
     marks: &mut [u64; 16],
 )
-    requires { ⌜ (Granted s (now h)) × (i < s .t) × (x < s .v) × (length (now marks) ≡ 16) ⌝ }
-    requires { ⌜ (Holds s n (now words)) × (Ready s i z (fieldGroups s n (now words))) ⌝ }
-    ensures { λ _. ⌜ Carries s n (Field.after (2 ^ s .m - 1) (firstOf s) (countsOf s) i x (fieldGroups s n (now (words .entry)))) (now (words .exit)) ⌝ }
+    requires { ⌜ (Granted (framed f (now v)) (now h)) × (i < f .t) × (x < getD (rangesOf (framed f (now v))) i 0) × (length (now marks) ≡ 16) ⌝ }
+    requires { ⌜ (Holds (framed f (now v)) n (now words)) × (Ready (framed f (now v)) i z (fieldGroups (framed f (now v)) n (now words))) ⌝ }
+    ensures { λ _. ⌜ Carries (framed f (now (v .entry))) n (afterIn (framed f (now (v .entry))) i x (fieldGroups (framed f (now (v .entry))) n (now (words .entry)))) (now (words .exit)) ⌝ }
 {
-    let m = s.m as usize;
-    let e = layout::all_ones(s.m);
+    let m = f.m as usize;
+    let e = layout::all_ones(f.m);
     let places = h[i];
     words::erase(words, n, m, z - places, marks);
-    let next = reading::next_count(h, s, i);
+    let next = reading::next_count(h, i);
     lay_number(
         words,
         marks,
@@ -159,16 +160,17 @@ fn erase_and_lay(
         places,
         e,
         reading::base(e, i),
-        reading::fewest(s, i),
+        reading::fewest(f, i),
         next,
         x,
     );
 }
 
-// The write at place i of a number in range on sound cells, whose groups the words hold.
+// The write at place i of a number in its range on sound cells, whose groups the words hold.
 fn write_at(
     h: &[u64; 16],
-    s: Shape,
+    f: Frame,
+    v: &[u64; 16],
     i: usize,
     x: u64,
     z: u64,
@@ -177,29 +179,33 @@ fn write_at(
     marks: &mut [u64; 16],
     cells: &mut [u8],
 ) -> u64
-    requires { ⌜ (Granted s (now h)) × (i < s .t) × (x < s .v) × (length (now marks) ≡ 16) ⌝ }
-    requires { ⌜ (Holds s n (now words)) × (Ready s i z (fieldGroups s n (now words))) × (sound (orderOf s) (s .m) (widthOf s) (now cells) ≡ true) ⌝ }
-    ensures { λ r. ⌜ Stored (orderOf s) (s .m) (Field.after (2 ^ s .m - 1) (firstOf s) (countsOf s) i x (fieldGroups s n (now (words .entry)))) (now (cells .entry)) (now (cells .exit)) r ⌝ }
+    requires { ⌜ (Granted (framed f (now v)) (now h)) × (i < f .t) × (x < getD (rangesOf (framed f (now v))) i 0) × (length (now marks) ≡ 16) ⌝ }
+    requires { ⌜ (Holds (framed f (now v)) n (now words)) × (Ready (framed f (now v)) i z (fieldGroups (framed f (now v)) n (now words))) × (SoundCells (framed f (now v)) (now cells)) ⌝ }
+    ensures { λ r. ⌜ Stored (orderOf (framed f (now (v .entry)))) (f .m) (afterIn (framed f (now (v .entry))) i x (fieldGroups (framed f (now (v .entry))) n (now (words .entry)))) (now (cells .entry)) (now (cells .exit)) r ⌝ }
 {
-    erase_and_lay(h, s, i, x, z, words, n, marks);
-    cells::store(cells, layout::order(s), s.m as usize, h[0] as usize, words)
+    erase_and_lay(h, f, v, i, x, z, words, n, marks);
+    cells::store(cells, layout::order(f), f.m as usize, h[0] as usize, words)
 }
 
-// The write of a number in range on sound cells.
-fn write_sound(h: &[u64; 16], s: Shape, cells: &mut [u8], x: u64) -> Writing
-    requires { ⌜ (Granted s (now h)) × (x < s .v) × (sound (orderOf s) (s .m) (widthOf s) (now cells) ≡ true) ⌝ }
-    ensures { λ r. ⌜ (writingOf r ≡ writeReply s x (now (cells .entry))) × (now (cells .exit) ≡ writeLeaves s x (now (cells .entry))) ⌝ }
+// The write on sound cells of a number that passed the fourth test: the refusals from 15 on, with the range of the generation that takes it as the last.
+fn write_sound(h: &[u64; 16], f: Frame, v: &[u64; 16], cells: &mut [u8], x: u64) -> Writing
+    requires { ⌜ (Granted (framed f (now v)) (now h)) × (overRange (framed f (now v)) x ≡ false) × (SoundCells (framed f (now v)) (now cells)) ⌝ }
+    ensures { λ r. ⌜ (writingOf r ≡ writeReply (framed f (now (v .entry))) x (now (cells .entry))) × (now (cells .exit) ≡ writeLeaves (framed f (now (v .entry))) x (now (cells .entry))) ⌝ }
 {
     let mut words = [0u64; 16];
     let mut marks = [0u64; 16];
-    let seen = reading::look_at(h, s, cells, &mut words, &mut marks);
+    let seen = reading::look_at(h, f, v, cells, &mut words, &mut marks);
     let found = seen.found;
-    let aim = take_aim(found, s.t);
+    let aim = take_aim(found, f.t);
     match aim {
         Aim::At(i) => {
+            if layout::range_at(f, v, i) <= x {
+                return Writing::Refused(Refusal::Plain(6));
+            }
             let turned = write_at(
                 h,
-                s,
+                f,
+                v,
                 i,
                 x,
                 seen.zeros,
@@ -218,28 +224,30 @@ fn write_sound(h: &[u64; 16], s: Shape, cells: &mut [u8], x: u64) -> Writing
 }
 
 // The write on a field whose layout is granted.
-pub fn write_granted(h: &[u64; 16], s: Shape, cells: &mut [u8], x: u64) -> Writing
-    requires { ⌜ Granted s (now h) ⌝ }
-    ensures { λ r. ⌜ (writingOf r ≡ writeReply s x (now (cells .entry))) × (now (cells .exit) ≡ writeLeaves s x (now (cells .entry))) ⌝ }
+pub fn write_granted(h: &[u64; 16], f: Frame, v: &[u64; 16], cells: &mut [u8], x: u64) -> Writing
+    requires { ⌜ Granted (framed f (now v)) (now h) ⌝ }
+    ensures { λ r. ⌜ (writingOf r ≡ writeReply (framed f (now (v .entry))) x (now (cells .entry))) × (now (cells .exit) ≡ writeLeaves (framed f (now (v .entry))) x (now (cells .entry))) ⌝ }
 {
-    if !cells::is_sound(cells, layout::order(s), s.m as usize, h[0] as usize) {
+    if !cells::is_sound(cells, layout::order(f), f.m as usize, h[0] as usize) {
         return Writing::Refused(Refusal::Plain(3));
     }
-    if s.v <= x {
+    // In form 2 the range goes by the generation, and 6 is tested last.
+    if (f.form != 2) & (v[0] <= x) {
         return Writing::Refused(Refusal::Plain(6));
     }
-    write_sound(h, s, cells, x)
+    write_sound(h, f, v, cells, x)
 }
 
 pub fn write(s: Shape, cells: &mut [u8], x: u64) -> Writing
     ensures { λ r. ⌜ (writingOf r ≡ writeReply s x (now (cells .entry))) × (now (cells .exit) ≡ writeLeaves s x (now (cells .entry))) ⌝ }
 {
     let mut h = [0u64; 16];
-    let refusal = layout::lay_into(&mut h, s, 256);
+    let f = layout::frame(s);
+    let refusal = layout::lay_into(&mut h, f, &s.v, 256);
     if refusal != 0 {
         return Writing::Refused(Refusal::Plain(refusal));
     }
-    write_granted(&h, s, cells, x)
+    write_granted(&h, f, &s.v, cells, x)
 }
 
 pub fn flat(writing: Writing) -> WriteFields

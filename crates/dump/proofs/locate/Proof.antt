@@ -14,13 +14,13 @@ locate-spec =
     (λ c. sym (ready-ended (c .before .before .before .pre) _ (omega arith)))
     -- read-head-requires
     (λ c κs. search needs)
-    -- enum-known-record
+    -- enum-known-head
     (λ c. search needs)
     -- enum-known-offset
     (λ c. search needs)
     -- returns-2
     (λ c.
-    let whole = rw (c .before .record .given .1) at (c .before .before .before .read-head .ensures) in
+    let whole = rw (c .before .head .given .1) at (c .before .before .before .read-head .ensures) in
     whole ∙ sym (ready-inside (c .before .before .before .before .before .before .before .pre) _ (omega arith)))
     -- returns-3
     (λ c.

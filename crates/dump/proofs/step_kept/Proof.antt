@@ -13,10 +13,10 @@ step-kept-spec =
     (tie.spec
     -- locate-requires
     (λ c κs. c .before .before .pre .0)
-    -- enum-known-record
+    -- enum-known-head
     (λ c. search needs)
     -- step-record-requires
-    (λ c κs. c .before .before .before .before .before .before .before .pre .1)
+    (λ c κs. c .before .before .before .before .before .before .before .before .pre .1)
     -- enum-told
     (λ c. search needs)
     -- enum-known-halt
@@ -24,8 +24,8 @@ step-kept-spec =
     -- returns
     (λ c.
     let made = c .step-record .ensures in
-    let r = c .before .before .before in
-    (made .0 ∙ located-reply _ _ _ (rw (r .record .given .1) at (r .before .before .locate .ensures)), made .1))
+    let r = c .before .before .before .before in
+    (made .0 ∙ located-reply _ _ _ (rw (r .head .given .1) at (r .before .before .locate .ensures)), made .1))
     -- returns-2
     (λ c. let l = c .before .before in (located-reply _ _ _ (rw (c .enum-told .given .1) at (l .locate .ensures)), l .before .before .before .pre .1))
     -- returns-3

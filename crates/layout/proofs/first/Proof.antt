@@ -11,6 +11,6 @@ first-spec =
     tie.close
     (tie.spec
     -- returns
-    (λ c. (rw (c .if1 .taken), omega arith))
+    (λ c. (λ v. rw (c .if1 .taken), omega arith))
     -- returns-2
-    (λ c. (rw (ne-eqb _ 0 (c .if1 .left)), omega arith)))
+    (λ c. (λ v. rw (ne-eqb _ 0 (c .if1 .left)), omega arith)))

@@ -1,10 +1,12 @@
 -- `layout::grant` meets its contract. Assumes nothing.
-use mathlib.Core.Path.{_∙_}
+use mathlib.Core.Path.{refl, _∙_}
 use Prim.Native.Nat.{_-_, _<_}
 use native.Mathlib.Omega.{arith}
 use borrow.Author.Needs.{needs}
-use Rattle.code.specs.Shape.{firstOf, rangesOf}
-use Rattle.code.proofs.LayoutCall.{ranges-length}
+use denote.Ref.{now}
+use Rattle.code.specs.Shape.{framed, firstOf, rangesOf}
+use Rattle.code.proofs.LayoutCall.{ranges-length, first-form}
+use Rattle.layout.specs.Climb.{Cut}
 use Rattle.layout.proofs.Least.{least-last, least-room}
 use Rattle.layout.proofs.Pascal.{least-from}
 use Rattle.layout.proofs.Tail.{Tail, tail-begin}
@@ -13,10 +15,11 @@ use Rattle.layout.proofs.grant.Statement.{statement}
 use Rattle.layout.proofs.grant.Tie as tie
 
 abbrev Inv-loop : tie.InvT-loop
-Inv-loop h₀ s g v e low₀ i₀ need cut h low i = Tail g e (s .t) (rangesOf s) i low h × (0 < i) × (0 < low) × (low < g)
+Inv-loop h₀ f v g e i₀ low₀ goal₀ h i low goal =
+    Tail g e (f .t) (rangesOf (framed f v)) i low h × (0 < i) × (0 < low) × (low < g) × Cut (e - 1) (goal .need) (goal .cut)
 
 abbrev μ-loop : tie.MeasureT-loop
-μ-loop h₀ s g v e low₀ i₀ need cut h low i = i
+μ-loop h₀ f v g e i₀ low₀ goal₀ h i low goal = i
 
 pub grant-spec : {M : Type 1} → statement M
 grant-spec =
@@ -26,39 +29,46 @@ grant-spec =
     μ-loop
     -- all-ones-requires
     (λ c κs. search needs)
+    -- sub-i
+    (λ c. search needs)
+    -- range-at-requires
+    (λ c κs. search needs)
     -- last-count-requires
     (λ c κs. search needs)
     -- refuse-requires
     (λ c κs. search needs)
     -- returns
     (λ c.
-    let o = c .before .before .before .before in
-    let a = o .before .args in
-    let e = o .all-ones .result in
-    let T = tail-begin (a .g) e (a .s .t) (rangesOf (a .s)) (omega arith) (ranges-length (a .s)) (omega arith) (o .before .pre .1 .1) in
+    let a = c .before .before .before .before .before .before in
+    let s = framed (a .args .f) (now (a .args .v)) in
+    let o = c .before .before .before .before .before .all-ones in
+    let e = o .result in
+    let T = tail-begin (a .args .g) e (s .t) (rangesOf s) (omega arith) (ranges-length s (a .pre .0 .0)) (omega arith) (a .pre .1 .1) in
     let L = least-last e (e - 1) 1 (c .before .before .before .last-count .ensures) in
-    c .refuse .ensures ∙ refused (a .s) (o .before .pre .1 .0) (o .all-ones .ensures .0) T (a .s .t - 1) (omega arith) L (omega arith)
-    (c .before .before .if1 .taken))
-    -- sub-i
-    (λ c. search needs)
+    let r = c .before .before .before .before .range-at .ensures .0 in
+    c .refuse .ensures ∙ refused s (a .pre .1 .0) (o .ensures .0) T (s .t - 1) (omega arith) r L (omega arith) (c .before .before .if1 .taken))
     -- mul-h
     (λ c. search needs)
     -- element-write-h
     (λ c. search needs)
-    -- add-need
-    (λ c. search needs)
-    -- sub-least-factor
-    (λ c. search needs)
-    -- least-factor-requires
-    (λ c κs. search needs)
     -- loop-holds
     (λ c.
-    let o = c .before .before .before in
-    let a = o .before .args in
-    let e = o .all-ones .result in
-    let T = tail-begin (a .g) e (a .s .t) (rangesOf (a .s)) (omega arith) (ranges-length (a .s)) (omega arith) (o .before .pre .1 .1) in
-    let L = least-last e (e - 1) 1 (c .before .before .last-count .ensures) in
-    (stored (a .s) (o .before .pre .1 .0) (o .all-ones .ensures .0) T (a .s .t - 1) (omega arith) L (omega arith), omega arith, L .above, c .before .if1 .left))
+    let a = c .before .before .before .before in
+    let s = framed (a .args .f) (now (a .args .v)) in
+    let o = c .before .before .before .all-ones in
+    let e = o .result in
+    let T = tail-begin (a .args .g) e (s .t) (rangesOf s) (omega arith) (ranges-length s (a .pre .0 .0)) (omega arith) (a .pre .1 .1) in
+    let L = least-last e (e - 1) 1 (c .before .last-count .ensures) in
+    let T′ = stored s (a .pre .1 .0) (o .ensures .0) T (s .t - 1) (omega arith) (c .before .before .range-at .ensures .0) L (omega arith) in
+    (T′, omega arith, L .above, c .if1 .left, record { enough = omega arith; least = omega arith }))
+    -- sub-goal-of
+    (λ c. search needs)
+    -- sub-range-at
+    (λ c. search needs)
+    -- range-at-requires-2
+    (λ c κs. search needs)
+    -- goal-of-requires
+    (λ c κs. search needs)
     -- sub-climb
     (λ c. search needs)
     -- climb-requires
@@ -67,13 +77,17 @@ grant-spec =
     (λ c κs. search needs)
     -- returns-2
     (λ c.
-    let s = c .before .before .before .before .before .loop in
-    let o = c .before .before .before .before .before .before .before .before .before in
-    let a = o .before .args in
-    let e = o .all-ones .result in
-    let L = least-room e (e - 1) 1 (s .inv .2) (least-from (e - 1) 1 (a .s .v) (omega arith) (c .before .before .before .climb .ensures) (omega arith)) in
-    c .refuse2 .ensures ∙ refused (a .s) (o .before .pre .1 .0) (o .all-ones .ensures .0) (s .inv .0) (s .i - 1) (omega arith) L (omega arith)
-    (c .before .before .if2 .taken))
+    let a = c .before .before .before .before .before .before .before .before .before .before .before .before in
+    let s = framed (a .args .f) (now (a .args .v)) in
+    let o = c .before .before .before .before .before .before .before .before .before .before .before .all-ones in
+    let e = o .result in
+    let l = c .before .before .before .before .before .before .before .loop in
+    let r = c .before .before .before .before .before .range-at2 in
+    let need = c .before .before .before .before .goal-of .ensures .0 in
+    let H = least-from (e - 1) 1 (r .result) (omega arith) (c .before .before .before .climb .ensures) (omega arith) in
+    let L = least-room e (e - 1) 1 (l .inv .2) H in
+    c .refuse2 .ensures
+    ∙ refused s (a .pre .1 .0) (o .ensures .0) (l .inv .0) (l .i - 1) (omega arith) (r .ensures .0) L (omega arith) (c .before .before .if2 .taken))
     -- sub-i-2
     (λ c. search needs)
     -- mul-h-2
@@ -84,18 +98,24 @@ grant-spec =
     (λ c. search needs)
     -- loop-again
     (λ c.
-    let s = c .before .before .before .loop in
-    let o = c .before .before .before .before .before .before .before in
-    let a = o .before .args in
-    let e = o .all-ones .result in
-    let L = least-room e (e - 1) 1 (s .inv .2) (least-from (e - 1) 1 (a .s .v) (omega arith) (c .before .climb .ensures) (omega arith)) in
-    let T = stored (a .s) (o .before .pre .1 .0) (o .all-ones .ensures .0) (s .inv .0) (s .i - 1) (omega arith) L (omega arith) in
-    (T, omega arith, omega (arith, L .above), c .if2 .left))
+    let a = c .before .before .before .before .before .before .before .before .before .before in
+    let s = framed (a .args .f) (now (a .args .v)) in
+    let o = c .before .before .before .before .before .before .before .before .before .all-ones in
+    let e = o .result in
+    let l = c .before .before .before .before .before .loop in
+    let r = c .before .before .before .range-at2 in
+    let need = c .before .before .goal-of .ensures .0 in
+    let H = least-from (e - 1) 1 (r .result) (omega arith) (c .before .climb .ensures) (omega arith) in
+    let L = least-room e (e - 1) 1 (l .inv .2) H in
+    let T = stored s (a .pre .1 .0) (o .ensures .0) (l .inv .0) (l .i - 1) (omega arith) (r .ensures .0) L (omega arith) in
+    (T, omega arith, omega (arith, L .above), c .if2 .left, c .before .before .goal-of .ensures .1))
+    -- range-at-requires-3
+    (λ c κs. search needs)
     -- first-requires
     (λ c κs. search needs)
-    -- add-need
+    -- add-opening
     (λ c. search needs)
-    -- least-factor-requires-2
+    -- least-factor-requires
     (λ c κs. search needs)
     -- climb-requires-2
     (λ c κs. search needs)
@@ -103,24 +123,29 @@ grant-spec =
     (λ c κs. search needs)
     -- returns-3
     (λ c.
-    let f = c .before .before .before .before .before in
-    let s = f .before .before .loop in
-    let o = f .before .before .before .before .before .before in
-    let a = o .before .args in
-    let e = o .all-ones .result in
-    let first = firstOf (a .s) in
-    let L = least-room e e first (s .inv .2) (least-from e first (a .s .v) (omega arith) (c .before .before .before .climb2 .ensures) (omega arith)) in
-    c .refuse3 .ensures ∙ first-refused (a .s) (o .before .pre .1 .0) (o .all-ones .ensures .0) (s .inv .0) (s .i - 1) (omega arith) (omega arith) L
-    (c .before .before .if3 .taken))
+    let a = c .before .before .before .before .before .before .before .before .before .before .before .before .before in
+    let s = framed (a .args .f) (now (a .args .v)) in
+    let o = c .before .before .before .before .before .before .before .before .before .before .before .before .all-ones in
+    let e = o .result in
+    let l = c .before .before .before .before .before .before .before .before .loop in
+    let r = c .before .before .before .before .before .before .range-at3 in
+    let one = firstOf s in
+    let lead = c .before .before .before .before .before .first .ensures .0 (s .v) in
+    let H = least-from e one (r .result) (first-form s) (c .before .before .before .climb2 .ensures) (omega arith) in
+    let L = least-room e e one (l .inv .2) H in
+    c .refuse3 .ensures ∙ first-refused s (a .pre .1 .0) (o .ensures .0) (l .inv .0) 0 (omega arith) (r .ensures .0) refl L (c .before .before .if3 .taken))
     -- element-write-h-3
     (λ c. search needs)
     -- returns-4
     (λ c.
-    let f = c .before .before .before in
-    let s = f .before .before .loop in
-    let o = f .before .before .before .before .before .before in
-    let a = o .before .args in
-    let e = o .all-ones .result in
-    let first = firstOf (a .s) in
-    let L = least-room e e first (s .inv .2) (least-from e first (a .s .v) (omega arith) (c .before .climb2 .ensures) (omega arith)) in
-    first-stored (a .s) (o .before .pre .1 .0) (o .all-ones .ensures .0) (s .inv .0) (s .i - 1) (omega arith) (omega arith) L (c .if3 .left) (omega arith)))
+    let a = c .before .before .before .before .before .before .before .before .before .before .before in
+    let s = framed (a .args .f) (now (a .args .v)) in
+    let o = c .before .before .before .before .before .before .before .before .before .before .all-ones in
+    let e = o .result in
+    let l = c .before .before .before .before .before .before .loop in
+    let r = c .before .before .before .before .range-at3 in
+    let one = firstOf s in
+    let lead = c .before .before .before .first .ensures .0 (s .v) in
+    let H = least-from e one (r .result) (first-form s) (c .before .climb2 .ensures) (omega arith) in
+    let L = least-room e e one (l .inv .2) H in
+    first-stored s (a .pre .1 .0) (o .ensures .0) (l .inv .0) 0 (omega arith) (r .ensures .0) refl L (c .if3 .left) (omega arith)))

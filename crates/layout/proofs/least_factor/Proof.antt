@@ -17,4 +17,8 @@ least-factor-spec =
     -- add-result
     (λ c. omega (arith, div-le-self (c .args .need - 1) (c .args .b)))
     -- returns
-    (λ c. let a = c .args in omega (arith, div-mul-le-self (a .need - 1) (a .b), lt-div-mul-add {a = a .need - 1} {b = a .b} (omega arith))))
+    (λ c.
+    let a = c .args in
+    let low = div-mul-le-self (a .need - 1) (a .b) in
+    let high = lt-div-mul-add {a = a .need - 1} {b = a .b} (omega arith) in
+    record { enough = omega arith; least = omega arith }))

@@ -8,7 +8,6 @@ use Rattle.moves.proofs.put_moved.Statement.{statement}
 use Rattle.moves.proofs.put_moved.Tie as tie
 
 pub put-moved-spec : {M : Type 1} → statement M
-unfolding cellsOf
 put-moved-spec =
     tie.close
     (tie.spec
@@ -16,7 +15,7 @@ put-moved-spec =
     -- put-record-requires
     (λ c κs.
     let s = c .before .before .before .before .before in
-    let r = s .args .«record» in
+    let r = s .args .head in
     let bytes = now (s .args .dump) in
     let e = c .before .part .ensures in
     ((s .pre .0, rw e (omega (arith, s .good, length-take (r .count) (drop (r .start) bytes), length-drop (r .start) bytes))), rw e (s .pre .1)))

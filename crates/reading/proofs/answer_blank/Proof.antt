@@ -9,6 +9,6 @@ answer-blank-spec =
     tie.close
     (tie.spec
     -- returns
-    (λ c. rw (ne-eqb (c .before .before .args .s .form) 0 (λ z. omega arith)))
+    (λ c. rw (ne-eqb (c .before .before .args .f .form) 0 (λ z. omega arith)))
     -- returns-2
     (λ c. rw (c .if1 .left)))

@@ -13,6 +13,6 @@ fewest-spec =
     -- first-requires
     (λ c κs. search needs)
     -- returns
-    (λ c. (c .first .ensures .0 ∙ fewest-first _ _ (c .before .if1 .taken), c .first .ensures .1))
+    (λ c. (λ v. c .first .ensures .0 v ∙ fewest-first _ _ (c .before .if1 .taken), c .first .ensures .1))
     -- returns-2
-    (λ c. (fewest-later _ _ (c .if1 .left), omega arith)))
+    (λ c. (λ v. fewest-later _ _ (c .if1 .left), omega arith)))

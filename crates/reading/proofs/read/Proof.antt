@@ -9,11 +9,13 @@ pub read-spec : {M : Type 1} → statement M
 read-spec =
     tie.close
     (tie.spec
+    -- frame-requires
+    (λ c κs. search needs)
     -- lay-into-requires
     (λ c κs. search needs)
     -- returns
-    (λ c. reads-refused _ _ (c .before .lay-into .ensures) (c .if1 .taken))
+    (λ c. reads-refused _ _ (rw (c .before .before .before .before .before .frame .ensures) at (c .before .lay-into .ensures)) (c .if1 .taken))
     -- read-granted-requires
-    (λ c κs. plan-granted _ (c .before .before .lay-into .ensures) (c .before .if1 .left))
+    (λ c κs. plan-granted _ (c .before .before .before .before .lay-into .ensures) (c .before .before .before .if1 .left))
     -- returns-2
-    (λ c. search needs))
+    (λ c. rw (c .before .before .before .before .before .before .before .before .before .frame .ensures) at (c .read-granted .ensures)))

@@ -1,20 +1,19 @@
 -- `reading::read_granted` meets its contract. Assumes nothing.
 use borrow.Author.Needs.{needs}
-use mathlib.Core.Path.{_≡_, refl, sym, _∙_}
-use mathlib.Core.Bool.{true}
+use mathlib.Core.Path.{refl, sym, _∙_}
 use borrow.Author.Tests.{not-false}
 use denote.Ref.{now}
-use Rattle.code.specs.Shape.{orderOf, widthOf}
-use Rattle.code.specs.Cells.{sound}
+use Rattle.code.specs.Shape.{framed}
+use Rattle.reading.specs.Answers.{SoundCells}
 use Rattle.reading.proofs.Judging.{sound-width, reads-3, reads-as}
 use Rattle.reading.proofs.read_granted.Statement.{statement}
 use Rattle.reading.proofs.read_granted.Tie as tie
 
 -- the cells are sound where no refusal returned
-right : (c : tie.Else1) → let a = c .before .before .before .before .before .args in sound (orderOf (a .s)) (a .s .m) (widthOf (a .s)) (now (a .cells)) ≡ true
+right : (c : tie.Else1) → let a = c .before .before .before .before .before .args in SoundCells (framed (a .f) (now (a .v))) (now (a .cells))
 right c =
     let a = c .before .before .before .before .before in
-    sym (sound-width (a .pre) (now (a .args .cells)) _ (c .before .before .before .order .ensures)) ∙ sym (c .before .is-sound .ensures)
+    sym (sound-width (a .pre) (now (a .args .cells)) _ (c .before .before .before .order .ensures (now (a .args .v)))) ∙ sym (c .before .is-sound .ensures)
     ∙ not-false _ (c .if1 .left)
 
 pub read-granted-spec : {M : Type 1} → statement M
@@ -28,7 +27,7 @@ read-granted-spec =
     -- returns
     (λ c.
     let a = c .before .before .before .before .before in
-    reads-3 (a .pre) (now (a .args .cells)) _ _ (c .before .before .before .order .ensures) (c .before .is-sound .ensures) (c .if1 .taken))
+    reads-3 (a .pre) (now (a .args .cells)) _ _ (c .before .before .before .order .ensures (now (a .args .v))) (c .before .is-sound .ensures) (c .if1 .taken))
     -- look-at-requires
     (λ c κs. let e = c .before .before in ((e .before .before .before .before .before .pre, right e), (refl, refl)))
     (λ c κs. search needs)

@@ -1,13 +1,11 @@
 -- `records::read_listed_head` meets its contract. Assumes nothing.
-use mathlib.Core.Path.{sym, ap, _∙_}
+use mathlib.Core.Path.{_∙_}
 use native.Mathlib.Omega.{arith}
 use borrow.Author.Needs.{needs}
 use denote.Ref.{now}
-use lib.ListN.{getD}
-use Rattle.code.specs.LayoutList.{listedShape}
 use Rattle.code.specs.Dump.{Source, listedLayouts}
 use Rattle.records.specs.Source.{layoutsAt}
-use Rattle.records.proofs.Laws.{head-cut, head-within, head-off, head-short, head-whole, layouts-each, off-list, on-list, listed-record}
+use Rattle.records.proofs.Laws.{head-cut, head-within, head-off, head-short, head-whole, off-list, on-list, listed-record}
 use Rattle.records.proofs.read_listed_head.Statement.{statement}
 use Rattle.records.proofs.read_listed_head.Tie as tie
 
@@ -40,19 +38,9 @@ read-listed-head-spec =
     let n = c .before .before .before .before .before .before in
     head-short (source-of (n .before)) _ _ _ (n .read-numbers .ensures) (c .before .before .before .end .given .1) (on-list _ _ _ (omega arith)) (c .if2 .taken))
     (λ c. search needs)
-    (λ c. search needs)
-    -- cast-shape-at
-    (λ c.
-    let n = c .before .before .before .before .before .before .before in
-    omega (arith, c .shared-slice-known3 .given (getD (n .read-numbers .last .1 .1 .0) 1 0)))
-    (λ c κs. search needs)
-    (λ c. search needs)
     -- returns-4
     (λ c.
-    let n = c .before .before .before .before .before .before .before .before in
-    let a = n .before .before .before .before .args in
+    let n = c .before .before .before .before .before .before in
     let xs = n .read-numbers .last .1 .1 .0 in
-    let known = layouts-each (now (a .dump)) (now (a .places)) (getD xs 1 0) (omega arith) in
-    let shape = c .shape-at .ensures ∙ ap listedShape (sym known) in
-    let whole = head-whole (source-of (n .before)) _ _ _ (n .read-numbers .ensures) (c .before .before .before .before .before .end .given .1) in
-    listed-record _ xs _ _ shape ∙ whole (on-list _ _ _ (omega arith)) (c .before .before .if2 .left)))
+    let whole = head-whole (source-of (n .before)) _ _ _ (n .read-numbers .ensures) (c .before .before .before .end .given .1) in
+    listed-record _ xs _ ∙ whole (on-list _ _ _ (omega arith)) (c .if2 .left)))

@@ -3,12 +3,13 @@ use mathlib.Core.Path.{refl}
 use native.Mathlib.Omega.{arith}
 use borrow.Author.Needs.{needs}
 use Rattle.code.specs.Dump.{ownLayouts, recordBy, outOfList}
+use Rattle.records.specs.Head.{saidShape}
 use Rattle.records.proofs.Laws.{head-cut, head-within, head-short, head-whole}
 use Rattle.records.proofs.read_own_head.Statement.{statement}
 use Rattle.records.proofs.read_own_head.Tie as tie
 
 pub read-own-head-spec : {M : Type 1} → statement M
-unfolding recordBy outOfList
+unfolding recordBy outOfList saidShape
 read-own-head-spec =
     tie.close
     (tie.spec

@@ -1,5 +1,6 @@
 -- `writing::write_at` meets its contract. Assumes nothing.
 use borrow.Author.Needs.{needs}
+use denote.Ref.{now}
 use mathlib.Core.Path.{refl}
 use Rattle.cells.proofs.Sizes.{storable}
 use Rattle.reading.proofs.Judging.{loadable, width}
@@ -23,4 +24,4 @@ write-at-spec =
     (λ c.
     let a = c .before .before .before .before .before .before .before .before .before .before .before in
     let g = stored-groups (width (a .pre .0 .0) (a .pre .1 .0)) (c .before .before .before .before .before .before .before .«erase-and-lay» .ensures) in
-    rw (c .before .before .before .before .before .order .ensures, g) at (c .before .before .store .ensures)))
+    rw (c .before .before .before .before .before .order .ensures (now (a .args .v)), g) at (c .before .before .store .ensures)))

@@ -1,24 +1,25 @@
 -- `writing::write_granted` meets its contract. Assumes nothing.
-use native.Mathlib.Omega.{arith}
 use borrow.Author.Needs.{needs}
-use mathlib.Core.Path.{_≡_, sym, _∙_}
-use mathlib.Core.Bool.{true}
+use mathlib.Core.Path.{sym, _∙_}
 use borrow.Author.Tests.{not-false}
 use denote.Ref.{now}
-use Rattle.code.specs.Shape.{orderOf, widthOf}
-use Rattle.code.specs.Cells.{sound}
+use Rattle.code.specs.Shape.{framed}
+use Rattle.code.specs.Calls.{overRange}
+use Rattle.reading.specs.Answers.{SoundCells}
 use Rattle.reading.proofs.Judging.{sound-width}
 use Rattle.writing.proofs.Rewriting.{writes-3, writes-6}
 use Rattle.writing.proofs.write_granted.Statement.{statement}
 use Rattle.writing.proofs.write_granted.Tie as tie
 
 -- the cells are sound where no refusal returned
-right : (c : tie.Else1) → let a = c .before .before .before .before .before .before .args in
-    sound (orderOf (a .s)) (a .s .m) (widthOf (a .s)) (now (a .cells)) ≡ true
-right c = let a = c .before .before .before .before .before .before in
-    sym (sound-width (a .pre) _ _ (c .before .before .before .order .ensures)) ∙ sym (c .before .is-sound .ensures) ∙ not-false _ (c .if1 .left)
+right : (c : tie.Else1) → let a = c .before .before .before .before .before .before .args in SoundCells (framed (a .f) (now (a .v))) (now (a .cells))
+right c =
+    let a = c .before .before .before .before .before .before in
+    sym (sound-width (a .pre) _ _ (c .before .before .before .order .ensures (now (a .args .v)))) ∙ sym (c .before .is-sound .ensures)
+    ∙ not-false _ (c .if1 .left)
 
 pub write-granted-spec : {M : Type 1} → statement M
+unfolding overRange
 write-granted-spec =
     tie.close
     (tie.spec
@@ -30,14 +31,18 @@ write-granted-spec =
     -- returns
     (λ c.
     let a = c .before .before .before .before .before .before in
-    writes-3 (a .pre) _ _ _ _ (c .before .before .before .order .ensures) (c .before .is-sound .ensures) (c .if1 .taken))
+    writes-3 (a .pre) _ _ _ _ (c .before .before .before .order .ensures (now (a .args .v))) (c .before .is-sound .ensures) (c .if1 .taken))
+    (λ c. search needs)
     (λ c. search needs)
     -- returns-2
-    (λ c. let a = c .before .before .before .before .before .before .before .before in
-    writes-6 (a .pre) _ _ (right (c .before .before)) (omega (arith, c .if2 .taken)))
+    (λ c.
+    let e = c .before .before .before in
+    let a = e .before .before .before .before .before .before in
+    writes-6 (a .pre) _ _ (right e) (c .if2 .taken))
     -- write-sound-requires
     (λ c κs.
-    let a = c .before .before .before .before .before .before .before .before .before in
-    (a .pre, omega (arith, c .before .if2 .left), right (c .before .before .before)))
+    let e = c .before .before .before .before in
+    let a = e .before .before .before .before .before .before in
+    (a .pre, c .before .if2 .left, right e))
     (λ c. search needs)
     (λ c. search needs))

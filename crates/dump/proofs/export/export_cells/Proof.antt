@@ -9,7 +9,7 @@ use denote.Ref.{now}
 use lib.ListN.{length}
 use Rattle.code.specs.Lists.{Below}
 use Rattle.code.specs.Cells.{sound}
-use Rattle.code.specs.Shape.{orderOf, widthOf}
+use Rattle.code.specs.Shape.{framed, orderOf, widthOf}
 use Rattle.code.specs.Dump.{recordOf}
 use Rattle.layout.specs.Plan.{Granted}
 use Rattle.layout.proofs.Planning.{plan-refused, plan-granted}
@@ -19,7 +19,7 @@ use Rattle.dump.proofs.export.export_cells.Statement.{statement}
 use Rattle.dump.proofs.export.export_cells.Tie as tie
 
 -- where no refusal of the layout returned
-granted-here : (c : tie.Else1) → Granted (c .before .before .before .before .before .before .args .shape) (c .before .lay-into .last .0)
+granted-here : (c : tie.Else1) → let a = c .before .before .before .before .before .before .args in Granted (framed (a .f) (now (a .v))) (c .before .lay-into .last .0)
 granted-here c = plan-granted _ (c .before .lay-into .ensures) (omega arith)
 
 below-here : (c : tie.Else1) → Below (2 ^ 63) (now (c .before .before .before .before .before .before .args .head))
@@ -27,9 +27,12 @@ below-here c = c .before .before .before .before .before .before .pre .0 (grante
 
 sound-here : (c : tie.After-is-sound) →
     let a = c .before .before .before .before .before .before .before .before .args in
-    c .is-sound .result ≡ sound (orderOf (a .shape)) (a .shape .m) (widthOf (a .shape)) (now (a .cells))
+    let s = framed (a .f) (now (a .v)) in
+    c .is-sound .result ≡ sound (orderOf s) (s .m) (widthOf s) (now (a .cells))
 unfolding widthOf
-sound-here c = rw (granted-here (c .before .before) .each 0, c .before .order .ensures) at (c .is-sound .ensures)
+sound-here c =
+    let a = c .before .before .before .before .before .before .before .before .args in
+    rw (granted-here (c .before .before) .each 0, c .before .order .ensures (now (a .v))) at (c .is-sound .ensures)
 
 length-here : (c : tie.After-record-length) →
     let a = c .before .before .before .before .before .before .before .before .before .before .args in
@@ -44,7 +47,7 @@ room-here c = omega (arith, length-here (c .before))
 -- where the output is too short
 refused-here : (c : tie.Then3) →
     let a = c .before .before .before .before .before .before .before .before .before .before .before .args in
-    Exported (a .shape) (now (a .head)) (now (a .cells)) (now (a .out)) (9 ∷ []) (now (a .out))
+    Exported (framed (a .f) (now (a .v))) (now (a .head)) (now (a .cells)) (now (a .out)) (9 ∷ []) (now (a .out))
 refused-here c =
     let s = c .before .before .before in
     let G = granted-here (s .before .before) in

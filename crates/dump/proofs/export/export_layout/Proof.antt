@@ -1,39 +1,99 @@
 -- `dump::export::export_layout` meets its contract. Assumes nothing.
-use Prim.Native.Nat.{_^_}
+use Prim.Native.Nat.{_+_, _-_, _^_, _≤_}
+use mathlib.Core.Path.{_≡_, ap}
+use mathlib.Core.List.{[], _∷_}
 use native.Mathlib.Omega.{arith}
+use native.Mathlib.Nat.{sub-zero}
 use borrow.Author.Needs.{needs}
+use lib.ListN.{length, take, length-append, length-take}
 use Rattle.code.specs.Lists.{Below}
+use Rattle.code.specs.Calls.{filled, layoutFields, layoutReply}
 use Rattle.layout.specs.Plan.{Granted}
 use Rattle.layout.proofs.Planning.{plan-refused, plan-granted}
-use Rattle.dump.proofs.Exports.{listed-refused, listed-crowded, listed-made, numbersOf}
+use Rattle.dump.proofs.Exports.{listed-refused, listed-crowded, listed-made, numbersOf, numbers-below, numbers-parts, count-few}
+use Rattle.code.specs.Numerals.{numeralsOf}
+use Rattle.code.proofs.LayoutCall.{given-length}
+use Rattle.code.proofs.Records.{numerals-few}
+use Rattle.storing.proofs.Put.{put-then, put-length}
 use Rattle.dump.proofs.export.export_layout.Statement.{statement}
 use Rattle.dump.proofs.export.export_layout.Tie as tie
 
--- where no refusal of the layout returned
-granted-here : (c : tie.Else1) → Granted (c .before .before .before .before .args .shape) (c .before .lay-into .last .0)
-granted-here c = plan-granted _ (c .before .lay-into .ensures) (omega arith)
+-- the layout of the shape, as it is laid
+laid-here : (c : tie.After-lay-into) → c .lay-into .result ∷ c .lay-into .last .0 ≡ filled layoutFields (layoutReply (c .before .before .before .before .before .before .args .t1) 256)
+laid-here c = rw (c .before .before .before .frame .ensures) at (c .lay-into .ensures)
 
-below-here : (c : tie.Else1) → Below (2 ^ 63) (numbersOf (c .before .before .before .before .args .shape))
-below-here c = let b = granted-here c .bounds in
-    (omega (arith, b .form-high), (omega (arith, b .m-high), (omega (arith, b .t-high), (omega (arith, b .v-high), tt))))
+-- where no refusal of it returned
+granted-here : (c : tie.Else1) → Granted (c .before .before .before .before .before .before .before .args .t1) (c .before .lay-into .last .0)
+granted-here c = plan-granted _ (laid-here (c .before)) (omega arith)
+
+long-array : (c : tie.Else1) → length (c .before .before .before .before .before .before .before .args .t1 .v) ≡ 16
+long-array c = search needs
+
+-- its ranges are within their array
+few-here : (c : tie.Else1) → let s = c .before .before .before .before .before .before .before .args .t1 in s .count ≤ length (s .v)
+few-here c = omega (arith, count-few _ (granted-here c .bounds), long-array c)
+
+below-here : (c : tie.Else1) → let s = c .before .before .before .before .before .before .before .args .t1 in Below (2 ^ 63) (s .form ∷ s .m ∷ s .t ∷ []) × Below (2 ^ 63) (take (s .count) (s .v))
+below-here c = numbers-below _ (granted-here c .bounds) (few-here c)
+
+-- both lengths together are that of the layout
+long-here : (c : tie.After-numbers-length2) → let s = c .before .before .before .before .before .before .before .before .before .before .before .before .before .args .t1 in
+    c .before .before .before .numbers-length .result + c .numbers-length2 .result ≡ length (numeralsOf (numbersOf s))
+long-here c =
+    let s = c .before .before .before .before .before .before .before .before .before .before .before .before .before .args .t1 in
+    let front = numeralsOf (s .form ∷ s .m ∷ s .t ∷ []) in
+    let ranges = numeralsOf (take (s .count) (s .v)) in
+    let parts = ap length (numbers-parts s (few-here (c .before .before .before .before .before .before))) in
+    omega (arith, parts, length-append front ranges, c .before .before .before .numbers-length .ensures, rw sub-zero at (c .numbers-length2 .ensures))
 
 pub export-layout-spec : {M : Type 1} → statement M
 export-layout-spec =
     tie.close
     (tie.spec
     (λ c κs. search needs)
+    (λ c κs. search needs)
     -- returns
-    (λ c. listed-refused _ _ _ (plan-refused _ (c .before .lay-into .ensures) (omega arith)))
+    (λ c. listed-refused _ _ _ (plan-refused _ (laid-here (c .before)) (omega arith)))
     (λ c. search needs)
     -- numbers-length-requires
-    (λ c κs. (below-here (c .before), omega arith))
+    (λ c κs. (below-here (c .before .before) .0, omega arith))
+    (λ c. search needs)
+    (λ c. search needs)
+    -- part-numbers-length-end
+    (λ c. omega (arith, few-here (c .before .before .before .before)))
+    -- numbers-length-requires-2
+    (λ c κs.
+    let e = c .before .before .before .before .before in
+    let s = e .before .before .before .before .before .before .before .args .t1 in
+    (rw sub-zero (below-here e .1), omega (arith, length-take (s .count - 0) (s .v), count-few s (granted-here e .bounds))))
+    -- add-if2
+    (λ c.
+    let s = c .before .before .before .before .before .before .before .before .before .before .before .before .before .args .t1 in
+    omega (arith, long-here c, numerals-few (numbersOf s), given-length s, count-few s (granted-here (c .before .before .before .before .before .before) .bounds)))
     -- returns-2
-    (λ c. listed-crowded _ _ (granted-here (c .before .before .before) .ok) (c .before .numbers-length .ensures) (omega arith))
+    (λ c. listed-crowded _ _ (granted-here (c .before .before .before .before .before .before .before) .ok) (long-here (c .before)) (omega arith))
     (λ c. search needs)
     -- write-numbers-requires
-    (λ c κs. (below-here (c .before .before .before .before .before), omega (arith, c .before .before .before .numbers-length .ensures)))
+    (λ c κs.
+    let n = c .before .before .before in
+    let s = n .before .before .before .before .before .before .before .before .before .before .before .before .before .args .t1 in
+    let e = n .before .before .before .before .before .before in
+    (below-here e .0, omega (arith, long-here n, n .before .before .before .numbers-length .ensures)))
+    (λ c. search needs)
+    (λ c. search needs)
+    -- part-write-numbers-end
+    (λ c. omega (arith, few-here (c .before .before .before .before .before .before .before .before .before .before .before .before .before .before)))
+    -- write-numbers-requires-2
+    (λ c κs.
+    let e = c .before .before .before .before .before .before .before .before .before .before .before .before .before .before .before in
+    let n = c .before .before .before .before .before .before .before .before .before in
+    let w = c .before .before .before .before .before .write-numbers .ensures in
+    (rw sub-zero (below-here e .1), rw sub-zero (omega (arith, long-here n, w .ends, put-length w, rw sub-zero at (n .numbers-length2 .ensures), n .before .before .before .numbers-length .ensures))))
     (λ c. search needs)
     -- returns-3
     (λ c.
-    let left = c .before .before .before .before .before in
-    listed-made _ _ (granted-here (left .before .before .before) .ok) (left .before .numbers-length .ensures) (omega arith) (c .before .before .write-numbers .ensures)))
+    let n = c .before .before .before .before .before .before .before .before .before .before .before .before in
+    let e = n .before .before .before .before .before .before in
+    let w = c .before .before .before .before .before .before .before .before .write-numbers .ensures in
+    let more = rw sub-zero at (c .before .before .write-numbers2 .ensures) in
+    listed-made _ _ (granted-here e .ok) (long-here n) (omega (arith, c .before .before .before .before .before .before .before .before .before .before .before .if2 .left)) (rw (numbers-parts (c .before .before .before .before .before .before .before .before .before .before .before .before .before .before .before .before .before .before .before .before .before .before .before .before .before .args .t1) (few-here e)) (put-then w more))))

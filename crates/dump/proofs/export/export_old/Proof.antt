@@ -14,10 +14,11 @@ export-old-spec =
     -- returns
     (λ c. let a = c .before .before .before .args in export-late (oldExport (a .serial) (a .m) (a .t) (a .v)) _ _ (omega arith))
     (λ c. search needs)
+    (λ c. search needs)
     -- export-cells-requires
-    (λ c κs. (λ b. (omega arith, (omega (arith, b .m-high), (omega (arith, b .t-high), (omega (arith, b .v-high), tt)))), omega arith))
+    (λ c κs. (λ b. (omega arith, (omega (arith, b .m-high), (omega (arith, b .t-high), (omega (arith, b .v-high 0 (omega arith)), tt)))), omega arith))
     (λ c. search needs)
     -- returns-2
     (λ c.
-    let a = c .before .before .before .before .before .before .before .before .args in
+    let a = c .before .before .before .before .before .before .before .before .before .args in
     c .before .before .export-cells .ensures (oldExport (a .serial) (a .m) (a .t) (a .v)) refl refl (omega arith) refl))

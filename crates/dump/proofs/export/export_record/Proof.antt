@@ -1,5 +1,5 @@
 -- `dump::export::export_record` meets its contract. Assumes nothing.
-use mathlib.Core.Path.{refl}
+use mathlib.Core.Path.{refl, sym}
 use native.Mathlib.Omega.{arith}
 use borrow.Author.Needs.{needs}
 use borrow.Author.Tests.{lt-ltb, le-ltb}
@@ -13,17 +13,18 @@ export-record-spec =
     tie.close
     (tie.spec
     -- returns
-    (λ c. let a = c .before .before .before .args in export-late (newExport (a .serial) (a .layout) (a .shape)) _ _ (omega arith))
+    (λ c. let a = c .before .before .before .args in export-late (newExport (a .serial) (a .layout) (a .t3)) _ _ (omega arith))
     -- returns-2
     (λ c.
     let a = c .before .before .before .before .args in
-    export-off-list (newExport (a .serial) (a .layout) (a .shape)) _ _ (omega arith) (lt-ltb 63 (a .layout) (omega arith)))
+    export-off-list (newExport (a .serial) (a .layout) (a .t3)) _ _ (omega arith) (lt-ltb 63 (a .layout) (omega arith)))
+    (λ c κs. search needs)
     (λ c. search needs)
     -- export-cells-requires
     (λ c κs. (λ b. (omega arith, (omega arith, tt)), omega arith))
     (λ c. search needs)
     -- returns-3
     (λ c.
-    let a = c .before .before .before .before .before .before .before .before .before .args in
-    let x = newExport (a .serial) (a .layout) (a .shape) in
-    c .before .before .export-cells .ensures x refl refl (omega arith) (le-ltb 63 (a .layout) (omega arith))))
+    let a = c .before .before .before .before .before .before .before .before .before .before .before .before .args in
+    let x = newExport (a .serial) (a .layout) (a .t3) in
+    c .before .before .export-cells .ensures x (sym (c .before .before .before .before .before .before .before .frame .ensures)) refl (omega arith) (le-ltb 63 (a .layout) (omega arith))))

@@ -2,14 +2,13 @@
 use mathlib.Core.Path.{_∙_}
 use native.Mathlib.Omega.{arith}
 use borrow.Author.Needs.{needs}
-use Rattle.code.specs.Dump.{recordNumbers}
 use Rattle.gorvlime.specs.Fields.{cellsEnd}
 use Rattle.gorvlime.proofs.Laws.{found-record, found-none}
 use Rattle.gorvlime.proofs.c.flat_step.Statement.{statement}
 use Rattle.gorvlime.proofs.c.flat_step.Tie as tie
 
 pub flat-step-spec : {M : Type 1} → statement M
-unfolding cellsEnd recordNumbers
+unfolding cellsEnd
 flat-step-spec =
     tie.close
     (tie.spec

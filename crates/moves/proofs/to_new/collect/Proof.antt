@@ -8,9 +8,11 @@ use lib.ListN.{length}
 use Rattle.code.specs.declared.Kind.the-variants.{Old}
 use Rattle.code.specs.Dump.{taken, step}
 use Rattle.code.proofs.Walk.{step-forward}
+use Rattle.records.specs.Source.{sourceOf}
+use Rattle.records.specs.Head.{headRecord}
 use Rattle.moves.proofs.Passing.{at-record, at-end, at-stop, cells-count, passing-stop}
 use Rattle.moves.proofs.Heads.{head-below}
-use Rattle.moves.proofs.ToNew.{Collecting, number-less, collecting-begin, collecting-next, collecting-end}
+use Rattle.moves.proofs.ToNew.{own-said, Collecting, number-less, collecting-begin, collecting-next, collecting-end}
 use Rattle.moves.proofs.to_new.collect.Statement.{statement}
 use Rattle.moves.proofs.to_new.collect.Tie as tie
 
@@ -21,13 +23,14 @@ abbrev μ-loop : tie.MeasureT-loop
 μ-loop dump places kept₀ at₀ total₀ layouts₀ kept at total layouts = length dump - at
 
 -- the record at the place, and what is known with it
-here : (c : tie.After-record Inv-loop μ-loop) → let l = c .before .before .before in
-    step Old (now (l .before .before .before .before .args .dump)) (l .loop .at) ≡ taken (c .«record» .given .0 .0)
-here c = at-record Old _ _ (c .before .before .locate .ensures) (c .«record» .given .1)
+here : (c : tie.After-head Inv-loop μ-loop) → let l = c .before .before .before in
+    let a = l .before .before .before .before .args in
+    step Old (now (a .dump)) (l .loop .at) ≡ taken (headRecord (sourceOf Old (now (a .dump)) (now (a .places))) (c .head .given .0 .0))
+here c = at-record Old _ _ _ (c .before .before .locate .ensures) (c .head .given .1)
 
 next : (c : tie.After-new-length Inv-loop μ-loop) →
     let k = c .before .before .before in
-    let r = k .before .before .before .«record» .given .0 .0 in
+    let r = k .before .before .before .head .given .0 .0 in
     let l = k .before .before .before .before .before .before in
     Collecting (now (l .before .before .before .before .args .dump)) (k .keep-layout .last .0) (r .start + r .count) (l .loop .total + c .new-length .result)
     (k .keep-layout .result)
@@ -36,7 +39,7 @@ next c =
     let e = here (k .before .before .before) in
     let l = k .before .before .before .before .before .before in
     collecting-next _ _ (l .before .before .before .before .pre .0) (l .loop .inv) _ e _
-    (c .new-length .ensures _ (cells-count Old _ _ _ e) ∙ ap length (number-less _ _)) _ _ (k .keep-layout .ensures)
+    (c .new-length .ensures _ (cells-count Old _ _ _ e) ∙ ap length (number-less _ _)) _ _ (λ ls kept. rw (own-said _ _ _) (k .keep-layout .ensures ls kept))
 
 pub collect-spec : {M : Type 1} → statement M
 collect-spec =
@@ -73,7 +76,7 @@ collect-spec =
     (λ c.
     let l = c .before .before .before in
     collecting-end _ _ (l .before .before .before .before .pre .0) (l .loop .inv)
-    (at-end Old _ _ (c .before .before .locate .ensures) (c .enum-told .given .1)))
+    (at-end Old _ _ _ (c .before .before .locate .ensures) (c .enum-told .given .1)))
     (λ c. search needs)
     -- same-length-2
     (λ c. let l = c .before .before .before .before in omega (arith, l .loop .inv .keeps .long, l .before .before .before .before .pre .1))
@@ -81,4 +84,4 @@ collect-spec =
     (λ c.
     let l = c .before .before .before .before in
     passing-stop (l .loop .inv .measured .pass) (c .before .halt .given .0 .0)
-    (at-stop Old _ _ (c .before .before .before .locate .ensures) (c .before .halt .given .1))))
+    (at-stop Old _ _ _ (c .before .before .before .locate .ensures) (c .before .halt .given .1))))

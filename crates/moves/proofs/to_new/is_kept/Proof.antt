@@ -13,21 +13,21 @@ is-kept-spec =
     (λ c. search needs)
     (λ c. search needs)
     -- returns
-    (λ c. unlike-v _ _ _ (c .if1 .taken))
+    (λ c. unlike-v _ _ _ _ _ (c .if1 .taken))
     (λ c. search needs)
     (λ c. search needs)
     (λ c. search needs)
     -- returns-2
-    (λ c. unlike-t _ _ _ (c .if2 .taken))
+    (λ c. unlike-t _ _ _ _ _ (c .if2 .taken))
     (λ c. search needs)
     (λ c. search needs)
     (λ c. search needs)
     -- returns-3
-    (λ c. unlike-m _ _ _ (c .if3 .taken))
+    (λ c. unlike-m _ _ _ _ _ (c .if3 .taken))
     (λ c. search needs)
     (λ c. search needs)
     -- returns-4
     (λ c.
-    let third = c .before .before in
+    let third = c .before in
     let second = third .before .before .before in
-    by-form _ _ _ (second .before .before .before .if1 .left) (second .if2 .left) (third .if3 .left)))
+    by-form _ _ _ _ _ (second .before .before .before .if1 .left) (second .if2 .left) (third .if3 .left)))

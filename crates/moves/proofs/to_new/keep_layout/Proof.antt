@@ -39,4 +39,4 @@ keep-layout-spec =
     -- same-length-3
     (λ c. simp length-set)
     -- returns-4
-    (λ c ls k. keeps-more k (omega arith) _ _ (c .before .before .place-of .ensures) (omega arith) (omega arith)))
+    (λ c ls k. keeps-more k (omega arith) _ _ _ _ (c .before .before .place-of .ensures) (omega arith) (omega arith)))

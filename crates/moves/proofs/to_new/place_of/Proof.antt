@@ -3,18 +3,17 @@ use Prim.Native.Nat.{_-_, _≤_}
 use mathlib.Core.Path.{_≡_, sym, _∙_}
 use native.Mathlib.Omega.{arith}
 use borrow.Author.Needs.{needs}
-use Rattle.code.specs.LayoutList.{listedOf}
 use Rattle.code.specs.NewDump.{placeOf}
-use Rattle.moves.specs.Kept.{keptLayouts}
+use Rattle.moves.specs.Kept.{saidListed, keptLayouts}
 use Rattle.moves.proofs.Keeping.{place-none, place-here, place-next}
 use Rattle.moves.proofs.to_new.place_of.Statement.{statement}
 use Rattle.moves.proofs.to_new.place_of.Tie as tie
 
 abbrev Inv-loop : tie.InvT-loop
-Inv-loop kept count shape i₀ i = (i ≤ count) × (i ≡ placeOf (keptLayouts i kept) (listedOf shape))
+Inv-loop kept count said i₀ i = (i ≤ count) × (i ≡ placeOf (keptLayouts i kept) (saidListed said))
 
 abbrev μ-loop : tie.MeasureT-loop
-μ-loop kept count shape i₀ i = count - i
+μ-loop kept count said i₀ i = count - i
 
 pub place-of-spec : {M : Type 1} → statement M
 place-of-spec =

@@ -1,21 +1,23 @@
 -- `moves::to_new::put_records` meets its contract. Assumes nothing.
 use Prim.Native.Nat.{_-_, _^_, _<_}
-use mathlib.Core.Path.{_≡_}
+use mathlib.Core.Path.{_≡_, _∙_}
 use mathlib.Core.List.{[], _∷_}
 use native.Mathlib.Omega.{arith}
 use borrow.Author.Needs.{needs}
 use denote.Ref.{now}
 use lib.ListN.{length}
 use Rattle.code.specs.declared.Kind.the-variants.{Old}
-use Rattle.code.specs.LayoutList.{listedOf}
 use Rattle.code.specs.Dump.{recordOf, listedLayouts, taken, step, cellsOf}
 use Rattle.code.proofs.Walk.{step-forward}
-use Rattle.moves.specs.Kept.{keptLayouts}
+use Rattle.moves.specs.Kept.{saidListed, keptLayouts}
+use Rattle.moves.specs.Passes.{cellsAt}
+use Rattle.records.specs.Source.{sourceOf}
+use Rattle.records.specs.Head.{headRecord}
 use Rattle.moves.proofs.Passing.{at-record, at-end, at-stop}
 use Rattle.moves.proofs.Heads.{head-below}
 use Rattle.moves.proofs.Storing.{movedAt, Filling, filling-begin, filling-same, filling-room, filling-next, filling-end, filling-stop}
 use Rattle.moves.proofs.Keeping.{place-most, kept-long}
-use Rattle.moves.proofs.ToNew.{number-at}
+use Rattle.moves.proofs.ToNew.{own-said, number-at}
 use Rattle.moves.proofs.to_new.put_records.Statement.{statement}
 use Rattle.moves.proofs.to_new.put_records.Tie as tie
 
@@ -28,17 +30,24 @@ abbrev μ-loop : tie.MeasureT-loop
 μ-loop dump places kept layouts out₀ first at₀ place₀ out at place = length dump - at
 
 -- the record at the place
-here : (c : tie.After-record Inv-loop μ-loop) → let l = c .before .before .before in
-    step Old (now (l .before .before .before .before .before .args .dump)) (l .loop .at) ≡ taken (c .«record» .given .0 .0)
-here c = at-record Old _ _ (c .before .before .locate .ensures) (c .«record» .given .1)
+here : (c : tie.After-head Inv-loop μ-loop) → let l = c .before .before .before in
+    let a = l .before .before .before .before .before .args in
+    step Old (now (a .dump)) (l .loop .at) ≡ taken (headRecord (sourceOf Old (now (a .dump)) (now (a .places))) (c .head .given .0 .0))
+here c = at-record Old _ _ _ (c .before .before .locate .ensures) (c .head .given .1)
 
 -- what is stored of it, with the number that is found
 moved-here : (c : tie.After-place-of Inv-loop μ-loop) →
-    let r = c .before .before .«record» .given .0 .0 in
+    let h = c .before .before .head .given .0 .0 in
     let a = c .before .before .before .before .before .before .before .before .before .before .args in
     let ls = keptLayouts (a .layouts) (now (a .kept)) in
-    recordOf (r .serial ∷ c .place-of .result ∷ []) (cellsOf (now (a .dump)) r) ≡ movedAt (listedLayouts ls) ls (now (a .dump)) r
-moved-here c = number-at _ _ (c .before .before .«record» .given .0 .0) _ (c .place-of .ensures)
+    recordOf (h .serial ∷ c .place-of .result ∷ []) (cellsAt (now (a .dump)) h)
+    ≡ movedAt (listedLayouts ls) ls (now (a .dump)) (headRecord (sourceOf Old (now (a .dump)) (now (a .places))) h)
+unfolding cellsOf
+moved-here c =
+    let a = c .before .before .before .before .before .before .before .before .before .before .args in
+    let h = c .before .before .head .given .0 .0 in
+    let r = headRecord (sourceOf Old (now (a .dump)) (now (a .places))) h in
+    number-at _ _ r _ (c .place-of .ensures ∙ rw (own-said (now (a .dump)) (now (a .places)) (h .said)))
 
 pub put-records-spec : {M : Type 1} → statement M
 put-records-spec =
@@ -63,7 +72,7 @@ put-records-spec =
     let a = d .before .args in
     let ls = keptLayouts (a .layouts) (now (a .kept)) in
     let serial = head-below Old _ _ _ _ _ (λ i h. omega (arith, d .shared-slice-known .given i)) (d .before .pre .0 .0) e .0 in
-    let most = place-most ls (listedOf (r .«record» .given .0 .0 .shape)) in
+    let most = place-most ls (saidListed (r .head .given .0 .0 .said)) in
     let few : c .before .place-of .result < 2 ^ 63 = omega (arith, n, most, kept-long (now (a .kept)) (a .layouts), d .before .pre .1 .0) in
     ((serial, few), rw (moved-here (c .before)) (filling-room (l .loop .inv) (d .before .pre .1 .2) _ e)))
     -- add-at
@@ -81,7 +90,7 @@ put-records-spec =
     -- same-length
     (λ c. filling-same (c .before .before .before .loop .inv))
     -- returns
-    (λ c. filling-end (c .before .before .before .loop .inv) (at-end Old _ _ (c .before .before .locate .ensures) (c .enum-told .given .1)))
+    (λ c. filling-end (c .before .before .before .loop .inv) (at-end Old _ _ _ (c .before .before .locate .ensures) (c .enum-told .given .1)))
     (λ c. search needs)
     -- same-length-2
     (λ c. filling-same (c .before .before .before .loop .inv))
@@ -89,4 +98,4 @@ put-records-spec =
     (λ c.
     let l = c .before .before .before in
     filling-stop (l .loop .inv) (l .before .before .before .before .before .pre .0 .1) (c .enum-told2 .given .0 .0)
-    (at-stop Old _ _ (c .before .before .locate .ensures) (c .enum-told2 .given .1))))
+    (at-stop Old _ _ _ (c .before .before .locate .ensures) (c .enum-told2 .given .1))))

@@ -9,6 +9,8 @@ use lib.ListN.{length}
 use Rattle.code.specs.declared.Kind.the-variants.{New}
 use Rattle.code.specs.Dump.{ownLayouts, taken, step}
 use Rattle.code.proofs.Walk.{step-forward}
+use Rattle.records.specs.Source.{sourceOf}
+use Rattle.records.specs.Head.{headRecord}
 use Rattle.moves.proofs.Passing.{at-record, at-end, at-stop, cells-count, passing-stop}
 use Rattle.moves.proofs.Heads.{head-below}
 use Rattle.moves.proofs.Storing.{Measuring, measuring-begin, measuring-next, measuring-end}
@@ -23,12 +25,13 @@ abbrev μ-loop : tie.MeasureT-loop
 μ-loop dump places start at₀ total₀ at total = length dump - at
 
 -- the record at the place, and the total with it
-here : (c : tie.After-record Inv-loop μ-loop) → let l = c .before .before .before in
-    step New (now (l .before .before .before .args .dump)) (l .loop .at) ≡ taken (c .«record» .given .0 .0)
-here c = at-record New _ _ (c .before .before .locate .ensures) (c .«record» .given .1)
+here : (c : tie.After-head Inv-loop μ-loop) → let l = c .before .before .before in
+    let a = l .before .before .before .args in
+    step New (now (a .dump)) (l .loop .at) ≡ taken (headRecord (sourceOf New (now (a .dump)) (now (a .places))) (c .head .given .0 .0))
+here c = at-record New _ _ _ (c .before .before .locate .ensures) (c .head .given .1)
 
 next : (c : tie.After-old-length Inv-loop μ-loop) →
-    let r = c .before .before .«record» .given .0 .0 in
+    let r = c .before .before .head .given .0 .0 in
     let l = c .before .before .before .before .before in
     Measuring ownLayouts [] New (now (l .before .before .before .args .dump)) (r .start + r .count) (l .loop .total + c .old-length .result)
 next c =
@@ -66,7 +69,7 @@ measure-spec =
     -- returns
     (λ c.
     let l = c .before .before .before in
-    let end = at-end New _ _ (c .before .before .locate .ensures) (c .enum-told .given .1) in
+    let end = at-end New _ _ _ (c .before .before .locate .ensures) (c .enum-told .given .1) in
     let w = measuring-end _ _ _ _ _ _ (l .before .before .before .pre) (l .loop .inv) end in
     (w .0, w .1 ∙ ap length (old-said _)))
     (λ c. search needs)
@@ -74,4 +77,4 @@ measure-spec =
     (λ c.
     let l = c .before .before .before .before in
     passing-stop (l .loop .inv .pass) (c .before .halt .given .0 .0)
-    (at-stop New _ _ (c .before .before .before .locate .ensures) (c .before .halt .given .1))))
+    (at-stop New _ _ _ (c .before .before .before .locate .ensures) (c .before .halt .given .1))))

@@ -1,6 +1,7 @@
 -- `records::list::shape_at` meets its contract. Assumes nothing.
+use mathlib.Core.Path.{_∙_}
 use borrow.Author.Needs.{needs}
-use Rattle.records.proofs.Laws.{shape-told, shape-none}
+use Rattle.records.proofs.Layouts.{shape-whole, shape-broken}
 use Rattle.records.proofs.list.shape_at.Statement.{statement}
 use Rattle.records.proofs.list.shape_at.Tie as tie
 
@@ -12,11 +13,8 @@ shape-at-spec =
     (λ c κs. search needs)
     (λ c. search needs)
     (λ c. search needs)
-    (λ c. search needs)
-    (λ c. search needs)
-    (λ c. search needs)
-    (λ c. search needs)
+    (λ c κs. search needs)
     -- returns
-    (λ c. shape-told _ _ _ (c .before .before .before .before .read-numbers .ensures) (c .before .end .given .1))
+    (λ c. shape-whole _ _ _ _ _ (c .before .frame .given .1) (c .before .before .before .before .read-layout .ensures))
     -- returns-2
-    (λ c. shape-none _ _ _ (c .before .before .before .read-numbers .ensures) (c .enum-told .given .1)))
+    (λ c. c .no-layout .ensures ∙ shape-broken _ _ _ (c .before .enum-told .given .1) (c .before .before .before .before .read-layout .ensures)))

@@ -1,0 +1,14 @@
+-- The layout that a walk keeps.
+use Prim.Native.Nat.{ℕ}
+use mathlib.Core.Path.{_≡_}
+use mathlib.Core.List.{List}
+use Rattle.code.specs.Shape.{framed}
+use Rattle.code.specs.Dump.{Source}
+use Rattle.layout.specs.Plan.{Planned}
+use Rattle.records.specs.Head.{saidShape}
+use Rattle.dump.specs.declared.kept.Kept.{Kept}
+
+-- it is the one that the last record said, and it is worked out
+pub record Keeps (source : Source) (k : Kept) (v h : List ℕ) : Type 0 where
+  pub planned : Planned (k .plan) v h
+  pub same : framed (k .plan .frame) v ≡ saidShape source (k .said)
