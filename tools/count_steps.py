@@ -36,20 +36,19 @@ def least_factor(b, need):
     return over(need - 1, b) + 1
 
 
-def grow(b, low, d, s):
-    all_, term, more = s
+def grow(b, d, s):
+    all_, more, scale = s
     kind = "by-constant" if d < LAID_OUT else "divisions"
     up = all_ + times(all_ + more, b)
-    term = times(term + more, b)
-    return up, term, over(times(term, low), d + 2, kind)
+    return up, over(times(more, scale), d + 2, kind), scale + b
 
 
 def climb(b, low, need, cut):
     steps["climbs"] += 1
-    s, d = (1, 1, low), 0
-    while s[0] + s[2] < cut:
+    s, d = (1, low, times(low + 1, b)), 0
+    while s[0] + s[1] < cut:
         steps["places"] += 1
-        s = grow(b, low, d, s)
+        s = grow(b, d, s)
         d += 1
     return low + d + 1 if s[0] < need else low + d
 

@@ -11,6 +11,7 @@ use Rattle.code.proofs.Count.{fewer-none, fewer-step, fewer-grows}
 use Rattle.code.proofs.Tests.{le-or-lt}
 use Rattle.counting.specs.Cap.{cap, sat}
 use Rattle.counting.specs.Falling.{falling}
+use Rattle.counting.specs.Sums.{SumSoFar}
 
 pub choose-above : (n k : ℕ) → n < k → choose n k ≡ 0
 unfolding choose
@@ -79,6 +80,10 @@ next-choose n j h = div-eq-of-eq-mul-left (omega arith) (move (choose n j) (n - 
 pub small-product : (most q b : ℕ) → q ≤ cap → b ≤ most → q * b ≤ cap * most
 small-product most q b h l = mul-le-mul h l
 
+-- a quotient below the cap, times the values of a place
+pub valued-room : (q b : ℕ) → q < cap → b ≤ 15 → q * b ≤ cap * 15
+valued-room q b l h = small-product 15 q b (omega arith) h
+
 pub room : (c n j : ℕ) → (j ≡ 0 → c ≤ 1) → c < cap → n ≤ 256 → c * (n - j) < 2 ^ 64
 room c n zero z h w = omega (arith, mul-le-mul {m₁ = n - 0} {m₂ = 256} (z refl) (omega arith))
 room c n (suc j) z h w = omega (arith, mul-le-mul {n₁ = c} {m₁ = n - suc j} {n₂ = 2 ^ 56} {m₂ = 255} (omega arith) (omega arith))
@@ -132,15 +137,6 @@ two-more n j p h e =
   where
     move : (c c′ c″ x y : ℕ) → c′ * suc j ≡ c * x → c″ * suc (suc j) ≡ c′ * y → c * (x * y) ≡ c″ * ((j + 1) * suc (suc j))
     move c c′ c″ x y p q = omega (arith, ap (λ (z : ℕ). z * y) p, ap (λ (z : ℕ). z * suc j) q)
-
--- the sum so far and its last term; j is the last written count in it
-pub record SumSoFar (b s first k term sum j : ℕ) : Type 0 where
-  pub low : first ≤ j
-  pub more : j < k
-  pub is-term : term ≡ choose s j * b ^ j
-  pub is-sum : sum ≡ fewer b s first (suc j)
-  pub within : term ≤ sum
-  pub small : sum < cap
 
 pub term-one : (b s : ℕ) → s * b ≡ choose s 1 * b ^ 1
 term-one b s = rw (choose-one s, power-one b)
@@ -198,7 +194,7 @@ down : (n k : ℕ) → choose (suc n) (suc k) * suc k ≡ choose n k * suc n
 unfolding choose
 down n k = omega (arith, absorb n k)
 
-across : (n k : ℕ) → k ≤ suc n → choose (suc n) k * (suc n - k) ≡ choose n k * suc n
+pub across : (n k : ℕ) → k ≤ suc n → choose (suc n) k * (suc n - k) ≡ choose n k * suc n
 across n k h = rw mul-sub (omega (arith, absorb (suc n) k, down n k))
 
 pub choose-positive : (n k : ℕ) → k ≤ n → 0 < choose n k

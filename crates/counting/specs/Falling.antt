@@ -1,4 +1,4 @@
--- The numerator of a binomial.
+-- Document 01, "Dealing numbers to patterns" (RULES 2): the numerator of a binomial.
 use Prim.Native.Nat.{ℕ, zero, suc, _-_, _*_}
 
 -- n · (n − 1) · .., k factors

@@ -1,2 +1,3 @@
 pub mod Cap
 pub mod Falling
+pub mod Sums

@@ -1,9 +1,10 @@
 // Binomials, up to row 60 from the stored triangle, and sums of patterns. A value at or above 2^56 + 1 is given as 2^56 + 1.
 ghost use mathlib.Core.Path.{_≡_};
-ghost use Prim.Native.Nat.{suc, _-_, _*_, _/_, _^_, _<_, _≤_};
+ghost use Prim.Native.Nat.{suc, _+_, _-_, _*_, _/_, _^_, _<_, _≤_};
 ghost use Rattle.code.specs.Count.{choose, fewer};
 ghost use Rattle.counting.specs.Cap.{cap, sat};
 ghost use Rattle.counting.specs.Falling.{falling};
+ghost use Rattle.counting.specs.Sums.{SumSoFar};
 
 pub const CAP: u64 = 0x0100_0000_0000_0001;
 
@@ -131,6 +132,48 @@ fn four(n: u64) -> u64
     pair(n) * pair(n - 2)
 }
 
+// A sum of patterns and its last term.
+struct Partial {
+    term: u64,
+    sum: u64,
+}
+
+// The sum with the term at j + 1, of one whose last is at j. At the cap the term no longer counts.
+fn add_next(b: u64, s: u64, j: u64, p: Partial) -> Partial
+    requires { ⌜ (0 < b) × (b ≤ 15) × (s ≤ 256) × (j < s) × (p .sum < cap) × (p .term ≤ p .sum) × (p .term ≡ choose s j * b ^ j) ⌝ }
+    ensures { λ r. ⌜ (cap ≤ r .sum → cap ≤ p .sum + choose s (suc j) * b ^ suc j) × (r .sum < cap → r .sum ≡ p .sum + r .term) × (r .sum < cap → r .term ≡ choose s (suc j) * b ^ suc j) ⌝ }
+{
+    let q = p.term * (s - j) / (j + 1);
+    if CAP <= q {
+        return Partial {
+            term: CAP,
+            sum: CAP,
+        };
+    }
+    let term = q * b;
+    Partial {
+        term,
+        sum: p.sum + term,
+    }
+}
+
+// The sum from `from` on, whose last term is at `from`; first stands here for the promise.
+fn fewer_on(b: u64, first: u64, s: u64, k: u64, start: Partial, from: u64) -> u64
+    requires { ⌜ (0 < b) × (b ≤ 15) × (s ≤ 256) × (k ≤ suc s) × SumSoFar b s first k (start .term) (start .sum) from ⌝ }
+    ensures { λ r. ⌜ r ≡ sat (fewer b s first k) ⌝ }
+{
+    let mut p = start;
+    let mut j = from;
+    while j + 1 < k {
+        p = add_next(b, s, j, p);
+        if CAP <= p.sum {
+            return CAP;
+        }
+        j += 1;
+    }
+    p.sum
+}
+
 // The sum over j = first .. k − 1 of C(s, j) · b^j.
 pub fn fewer(b: u64, first: u64, s: u64, k: u64) -> u64
     requires { ⌜ (0 < b) × (b ≤ 15) × (first ≤ 1) × (s ≤ 256) × (k ≤ suc s) ⌝ }
@@ -142,22 +185,24 @@ pub fn fewer(b: u64, first: u64, s: u64, k: u64) -> u64
     if k == 1 {
         return 1;
     }
-    let mut term = s * b;
-    let mut sum = 1 - first + term;
+    let term = s * b;
+    let mut p = Partial {
+        term,
+        sum: 1 - first + term,
+    };
     let mut j: u64 = 1;
-    while j + 1 < k {
-        let q = divide(term * (s - j), j + 1);
-        if CAP <= q {
-            return CAP;
+    // So few turns are laid out one behind the other by the compiler, and each divides by a constant.
+    while j < 16 {
+        if k <= j + 1 {
+            return p.sum;
         }
-        term = q * b;
-        sum += term;
-        if CAP <= sum {
+        p = add_next(b, s, j, p);
+        if CAP <= p.sum {
             return CAP;
         }
         j += 1;
     }
-    sum
+    fewer_on(b, first, s, k, p, j)
 }
 
 // The term at j + 1, from that at j: C(s, j + 1) · b^(j + 1).
@@ -165,35 +210,11 @@ pub fn next_term(term: u64, b: u64, s: u64, j: u64) -> u64
     requires { ⌜ (0 < b) × (b ≤ 15) × (s ≤ 256) × (j < s) × (term < cap) × (term ≡ choose s j * b ^ j) ⌝ }
     ensures { λ r. ⌜ r ≡ sat (choose s (suc j) * b ^ suc j) ⌝ }
 {
-    let q = divide(term * (s - j), j + 1);
+    let q = term * (s - j) / (j + 1);
     if CAP <= q {
         return CAP;
     }
     clip(q * b)
-}
-
-// x / d. A division by a constant costs little.
-fn divide(x: u64, d: u64) -> u64
-    requires { ⌜ 0 < d ⌝ }
-    ensures { λ r. ⌜ r ≡ x / d ⌝ }
-{
-    match d {
-        2 => x / 2,
-        3 => x / 3,
-        4 => x / 4,
-        5 => x / 5,
-        6 => x / 6,
-        7 => x / 7,
-        8 => x / 8,
-        9 => x / 9,
-        10 => x / 10,
-        11 => x / 11,
-        12 => x / 12,
-        13 => x / 13,
-        14 => x / 14,
-        15 => x / 15,
-        _ => x / d,
-    }
 }
 
 // C(n − 1, k), from c = C(n, k).

@@ -22,6 +22,7 @@ use Rattle.code.proofs.Count.{choose-grows, choose-more, choose-up, fewer-none,
 use Rattle.counting.specs.Cap.{cap, sat}
 use Rattle.counting.proofs.Laws.{choose-above, choose-one, choose-positive, inner-small, fewer-one, power-one, power-more, term-one}
 use Rattle.dealing.specs.Pick.{unranked, Candidate}
+use Rattle.dealing.specs.Split.{Splitting}
 use Rattle.dealing.proofs.Telling.{plain-end, room}
 
 set-front : (l : List ℕ) (j v : ℕ) → j < length l → drop j (set l j v) ≡ v ∷ drop (suc j) l
@@ -230,16 +231,10 @@ module _ (s k r₀ : ℕ) (l : List ℕ) (at free left r : ℕ) (L : Unranking s
       let jump = unranked-jump (free - suc r) r 0 r (omega (arith, choose-one r)) (omega (arith, choose-one (suc r))) in
       ap (λ (x : ℕ). take x (set l at r)) e ∙ take-suc-set l at r room ∙ rw (← unranked-none r (r - choose r 1), ← jump, ← g, ← one) (L .rest)
 
--- the places of a number: what is left of it lies past the patterns with fewer than k written places
-pub record Splitting (b first s n k power term rest : ℕ) : Type 0 where
-  pub from : first ≤ k
-  pub to : k ≤ s
-  pub number : n ≡ fewer b s first k + rest
-  pub power-is : power ≡ b ^ k
-  pub term-is : term ≡ sat (choose s k * b ^ k)
-
+-- the way of a number to its count of written places begins at 1
 pub split-begin : (b first s n : ℕ) → first ≤ 1 → s * b ≤ 3840 → n < fewer b s first (suc s) → 0 < n + first → Splitting b first s n 1 b (s * b) (n + first - 1)
 split-begin b first s n hf hs h some = record {
+  some = omega arith;
   from = hf;
   to = elim (le-or-lt 1 s) [
     | inl l ↦ l
@@ -279,6 +274,7 @@ module _ {b first s n k power term rest : ℕ} (S : Splitting b first s n k powe
   pub split-turn : (t : ℕ) → term ≤ rest → Passed b s k power term → t ≡ sat (choose s (suc k) * b ^ suc k) →
       Splitting b first s n (k + 1) (power * b) t (rest - term)
   split-turn t h P et = rw add-one (record {
+    some = omega arith;
     from = omega (arith, S .from);
     to = P .more;
     number = omega (arith, grown (P .exact), S .number);

@@ -1,4 +1,4 @@
--- The labels alone of the way back.
+-- Document 01, "Dealing numbers to patterns" (RULES 4): the labels alone of the way back.
 use Prim.Native.Nat.{ℕ, zero, suc, _-_, _<_}
 use mathlib.Core.Path.{_≡_}
 use mathlib.Core.Bool.{cond}

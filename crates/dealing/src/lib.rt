@@ -9,6 +9,7 @@ ghost use Rattle.code.specs.Deal.{deal, plain, plainly};
 ghost use Rattle.code.specs.Chosen.{ranked, patternMost, Chosen};
 ghost use Rattle.counting.specs.Cap.{cap, sat};
 ghost use Rattle.dealing.specs.Pick.{unranked, Candidate};
+ghost use Rattle.dealing.specs.Split.{Dealt, Splitting};
 
 // What the arrays have room for.
 pub const PATTERN_MOST: usize = 64;
@@ -200,8 +201,61 @@ fn leap(label: u64, fit: u64, left: u64, r: u64) -> Reach
     Reach { label, fit }
 }
 
-// The written places of the pattern of s places that has the number n, and how many they are. The patterns with fewer of them are passed count by count;
-// what is left of n is the rank and the digits.
+// k written places, b^k, the count of patterns that have as many, and what is left of a number behind those with fewer.
+struct Passing {
+    k: u64,
+    power: u64,
+    term: u64,
+    rest: u64,
+}
+
+// The patterns of k written places are passed by; fewest and n stand here for the promise.
+fn pass_one(s: u64, b: u64, fewest: u64, n: u64, p: Passing) -> Passing
+    requires { ⌜ (Dealt b fewest s n) × (Splitting b fewest s n (p .k) (p .power) (p .term) (p .rest)) × (p .term ≤ p .rest) ⌝ }
+    ensures { λ r. ⌜ (r .k ≡ p .k + 1) × (Splitting b fewest s n (r .k) (r .power) (r .term) (r .rest)) ⌝ }
+{
+    Passing {
+        k: p.k + 1,
+        power: p.power * b,
+        term: counting::next_term(p.term, b, s, p.k),
+        rest: p.rest - p.term,
+    }
+}
+
+fn pass_on(s: u64, b: u64, fewest: u64, n: u64, start: Passing) -> Passing
+    requires { ⌜ (Dealt b fewest s n) × (Splitting b fewest s n (start .k) (start .power) (start .term) (start .rest)) ⌝ }
+    ensures { λ r. ⌜ (Splitting b fewest s n (r .k) (r .power) (r .term) (r .rest)) × (r .rest < r .term) ⌝ }
+{
+    let mut p = start;
+    while p.term <= p.rest {
+        p = pass_one(s, b, fewest, n, p);
+    }
+    p
+}
+
+// The patterns with fewer written places than that of n are passed by, count by count.
+fn pass_fewer(s: u64, b: u64, fewest: u64, n: u64) -> Passing
+    requires { ⌜ (Dealt b fewest s n) × (0 < n + fewest) ⌝ }
+    ensures { λ r. ⌜ (Splitting b fewest s n (r .k) (r .power) (r .term) (r .rest)) × (r .rest < r .term) ⌝ }
+{
+    let mut p = Passing {
+        k: 1,
+        power: b,
+        term: s * b,
+        rest: n + fewest - 1,
+    };
+    // So few turns are laid out one behind the other by the compiler, and each divides by a constant.
+    while p.k < 16 {
+        if p.rest < p.term {
+            return p;
+        }
+        p = pass_one(s, b, fewest, n, p);
+    }
+    pass_on(s, b, fewest, n, p)
+}
+
+// The written places of the pattern of s places that has the number n, and how many they are. What is left of n behind the patterns with fewer of them is
+// the rank and the digits.
 pub fn deal(
     labels: &mut [u8; PATTERN_MOST],
     values: &mut [u8; PATTERN_MOST],
@@ -218,17 +272,8 @@ pub fn deal(
     if n + fewest == 0 {
         return 0;
     }
-    let mut k: u64 = 1;
-    let mut power = b;
-    let mut term = s * b;
-    let mut rest = n + fewest - 1;
-    while term <= rest {
-        rest -= term;
-        term = counting::next_term(term, b, s, k);
-        power *= b;
-        k += 1;
-    }
-    unrank(labels, s, k, rest / power);
-    plainly(values, k as usize, b, rest % power);
-    k as usize
+    let p = pass_fewer(s, b, fewest, n);
+    unrank(labels, s, p.k, p.rest / p.power);
+    plainly(values, p.k as usize, b, p.rest % p.power);
+    p.k as usize
 }

@@ -66,7 +66,8 @@ pub fn export_record(serial: u64, layout: u64, shape: Shape, cells: &[u8], out: 
         return Made::Refused(1);
     }
     let head = [serial, layout];
-    export_cells(layout::frame(shape), &shape.v, &head, cells, out)
+    let v = shape.v;
+    export_cells(layout::frame(shape), &v, &head, cells, out)
 }
 
 // Stores a layout for the list of a new dump at the front of `out`.
@@ -75,12 +76,12 @@ pub fn export_layout(shape: Shape, out: &mut [u8]) -> Made
     ensures { λ r. ⌜ now (out .exit) ≡ layoutExportLeaves shape (now (out .entry)) ⌝ }
 {
     let mut h = [0u64; 16];
-    let refusal = layout::lay_into(&mut h, layout::frame(shape), &shape.v, 256);
+    let v = shape.v;
+    let refusal = layout::lay_into(&mut h, layout::frame(shape), &v, 256);
     if refusal != 0 {
         return Made::Refused(refusal);
     }
     let numbers = [shape.form, shape.m, shape.t];
-    let v = shape.v;
     let count = shape.count as usize;
     if out.len() < numerals::numbers_length(&numbers) + numerals::numbers_length(&v[0..count]) {
         return Made::Refused(9);

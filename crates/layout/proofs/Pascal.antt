@@ -1,6 +1,6 @@
 -- The climb to a count: one sum of patterns, which goes up by Pascal's rule.
 use Prim.Native.Nat.{ℕ, zero, suc, _+_, _-_, _*_, _/_, _^_, _≤_, _<_}
-use mathlib.Core.Path.{_≡_, refl, sym, _∙_}
+use mathlib.Core.Path.{_≡_, refl, sym, ap, _∙_}
 use mathlib.Core.Logic.{inl, inr}
 use native.Mathlib.Nat.{pow-zero, pow-suc, mul-le-mul, mul-le-mul-right, div-mul-le-self, le-mul-of-pos-right}
 use native.Mathlib.Numerals.{add-one}
@@ -9,7 +9,7 @@ use Rattle.code.specs.Count.{choose, fewer}
 use Rattle.code.proofs.Count.{fewer-none, fewer-step}
 use Rattle.code.proofs.Tests.{le-or-lt}
 use Rattle.counting.specs.Cap.{cap}
-use Rattle.counting.proofs.Laws.{choose-one, next-term}
+use Rattle.counting.proofs.Laws.{choose-one, next-term, across}
 use Rattle.layout.specs.Climb.{held, Least, Climbed, Asked, Short}
 
 -- Pascal's rule for the sums: a place more is blank, or holds one of b values
@@ -46,24 +46,29 @@ least-from {low} {need} {r} b first v h L more = record {
   enough = omega (arith, L .enough, from-none b r first (r - low) h);
 }
 
-pub climb-begin : (b low : ℕ) → low ≤ 255 → Climbed b low 0 1 1 low
+pub climb-begin : (b low : ℕ) → low ≤ 255 → Climbed b low 0 1 low ((low + 1) * b)
 climb-begin b low h =
     let z : low + 0 ≡ low = omega arith in
     record {
       is-all = sym (only-none b (low + 0));
-      is-term = sym (one b (low + 0));
       is-more = rw (z, choose-one low, pow-zero b) (omega arith);
+      is-scale = omega arith;
       near = omega arith;
       far = omega arith;
+      wide = omega arith;
       fits = omega arith;
     }
 
 pub short-begin : (b low need : ℕ) → 0 < need → Short b low need 0
 short-begin b low need h = rw (fewer-none b (low + (0 - 1)) 0 0 (omega arith)) h
 
-module _ {b low d all term more : ℕ} (C : Climbed b low d all term more) where
-  pub term-small : term ≤ all
-  term-small = omega (arith, C .is-all, C .is-term, fewer-step b (low + d) 0 d (omega arith))
+module _ {b low d all more scale : ℕ} (C : Climbed b low d all more scale) where
+  -- the patterns of d written places
+  abbrev term : ℕ
+  term = choose (low + d) d * b ^ d
+
+  term-small : term ≤ all
+  term-small = omega (arith, C .is-all, fewer-step b (low + d) 0 d (omega arith))
 
   -- the sum one place up
   all-next : all + (all + more) * b ≡ fewer b (low + suc d) 0 (suc (suc d))
@@ -71,37 +76,54 @@ module _ {b low d all term more : ℕ} (C : Climbed b low d all term more) where
       let f : low + suc d ≡ suc (low + d) = omega arith in
       rw (f, wider b (low + d) (suc d), fewer-step b (low + d) 0 (suc d) (omega arith), pow-suc b d, C .is-more, C .is-all) (omega arith)
 
+  -- those of d + 1 written places, one place up
   term-next : (term + more) * b ≡ choose (low + suc d) (suc d) * b ^ suc d
   term-next =
       let f : low + suc d ≡ suc (low + d) = omega arith in
-      rw (f, chosen (low + d) d, pow-suc b d, C .is-term, C .is-more) (omega arith)
+      rw (f, chosen (low + d) d, pow-suc b d, C .is-more) (omega arith)
 
-  more-next : (term + more) * b * low / (d + 2) ≡ choose (low + suc d) (suc (suc d)) * b ^ suc d
+  scaled : more * scale ≡ (term + more) * b * low
+  scaled =
+      let f : low + suc d ≡ suc (low + d) = omega arith in
+      let l : suc (low + d) - suc d ≡ low = omega arith in
+      let up = rw l at (across (low + d) (suc d) (omega arith)) in
+      rw (term-next, C .is-more, C .is-scale, f, pow-suc b d) (move (choose (suc (low + d)) (suc d)) (choose (low + d) (suc d)) (b ^ d) (suc (low + d)) up)
+    where
+      move : (c c′ p n : ℕ) → c * low ≡ c′ * n → c′ * p * (n * b) ≡ c * (p * b) * low
+      move c c′ p n e = omega (arith, ap (λ (x : ℕ). x * (p * b)) e)
+
+  more-next : more * scale / (d + 2) ≡ choose (low + suc d) (suc (suc d)) * b ^ suc d
   more-next =
       let f : low + suc d - suc d ≡ low = omega arith in
       let two : suc d + 1 ≡ d + 2 = omega arith in
-      rw term-next (rw (f, two) at (next-term (low + suc d) (suc d) (b ^ suc d) (omega arith)))
+      rw (scaled, term-next) (rw (f, two) at (next-term (low + suc d) (suc d) (b ^ suc d) (omega arith)))
 
   module _ (pos : 0 < b) (little : (all + more) * b < cap) where
     pub all-room : all + more ≤ (all + more) * b
     all-room = le-mul-of-pos-right (all + more) pos
 
-    pub term-room : (term + more) * b < cap
-    term-room = omega (arith, mul-le-mul-right {m = term + more} {n = all + more} b (omega (arith, term-small)))
+    pub scale-room : scale + b ≤ 2 ^ 57
+    scale-room =
+        let up = mul-le-mul-right {m = low + suc d} {n = all + more} b (omega (arith, C .wide)) in
+        let one = mul-le-mul-right {m = 1} {n = all + more} b (omega (arith, C .far)) in
+        omega (arith, C .is-scale)
 
-    pub more-room : low ≤ 255 → (term + more) * b * low ≤ 2 ^ 56 * 255
-    more-room h = mul-le-mul {n₂ = 2 ^ 56} (omega (arith, term-room)) h
+    pub more-room : low ≤ 255 → more * scale ≤ 2 ^ 56 * 255
+    more-room h =
+        let t = mul-le-mul-right {m = term + more} {n = all + more} b (omega (arith, term-small)) in
+        rw scaled (mul-le-mul {n₂ = 2 ^ 56} (omega arith) h)
 
-    pub climb-turn : low ≤ 255 → Climbed b low (d + 1) (all + (all + more) * b) ((term + more) * b) ((term + more) * b * low / (d + 2))
+    pub climb-turn : low ≤ 255 → Climbed b low (d + 1) (all + (all + more) * b) (more * scale / (d + 2)) (scale + b)
     climb-turn h =
         rw (add-one d)
         (record {
           is-all = all-next;
-          is-term = term-next;
           is-more = more-next;
+          is-scale = omega (arith, C .is-scale);
           near = omega (arith, C .far, all-room);
           far = omega (arith, C .far, all-room);
-          fits = omega (arith, all-room, more-room h, half ((term + more) * b * low));
+          wide = omega (arith, C .wide, C .far, all-room);
+          fits = omega (arith, all-room, more-room h, half (more * scale));
         })
       where
         half : (x : ℕ) → x / (d + 2) * 2 ≤ x

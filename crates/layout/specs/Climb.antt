@@ -1,4 +1,4 @@
--- What a climb to a count finds, and what it knows on its way.
+-- Document 01, "Layout" (RULES 2): what a climb to a count finds, and what it knows on its way.
 use Prim.Native.Nat.{ℕ, suc, _+_, _-_, _*_, _^_, _<_, _≤_}
 use mathlib.Core.Path.{_≡_}
 use Rattle.code.specs.Count.{choose, fewer}
@@ -14,13 +14,14 @@ pub record Least (f : ℕ → ℕ) (v low r : ℕ) : Type 0 where
   pub short : f (r - 1) < v
   pub enough : v ≤ f r
 
--- d places above low: the patterns of at most d written places, those of d, and those of d + 1 before the value of the last is chosen
-pub record Climbed (b low d all term more : ℕ) : Type 0 where
+-- d places above low: the patterns of at most d written places, those of d + 1 before the value of the last is chosen, and what these go up by
+pub record Climbed (b low d all more scale : ℕ) : Type 0 where
   pub is-all : all ≡ fewer b (low + d) 0 (suc d)
-  pub is-term : term ≡ choose (low + d) d * b ^ d
   pub is-more : more ≡ choose (low + d) (suc d) * b ^ d
+  pub is-scale : scale ≡ (low + suc d) * b
   pub near : d ≤ cap
   pub far : d < all
+  pub wide : low + d < all + more
   pub fits : all + more < 2 ^ 64
 
 -- cut is the least number whose product with b is at least need
@@ -28,9 +29,15 @@ pub record Cut (b need cut : ℕ) : Type 0 where
   pub enough : need ≤ cut * b
   pub least : cut * b < need + b
 
+-- a goal on the way through the generations: its cut, and where one range holds for all, one more than that range
+pub record Aimed (b form range need cut : ℕ) : Type 0 where
+  pub cuts : Cut b need cut
+  pub single : (form ≡ 2 → ⊥) → need ≡ range + 1
+
 -- what a climb is asked for: need patterns above low, of b values for a written place
 pub record Asked (b low need cut : ℕ) : Type 0 where
   pub values : 0 < b
+  pub few : b ≤ 15
   pub within : low ≤ 255
   pub some : 2 ≤ need
   pub most : need ≤ cap

@@ -1,4 +1,4 @@
--- A layout worked out, and what is known where it is granted.
+-- Document 01, "Layout" (RULES 2): a layout worked out, and what is known where it is granted.
 use Prim.Native.Nat.{ℕ, _<_, _≤_}
 use mathlib.Core.Path.{_≡_}
 use mathlib.Core.List.{List, [], _∷_}

@@ -11,7 +11,7 @@ ghost use Rattle.code.specs.Shape.{framed, firstOf, rangesDue, rangesOf, orderO
 ghost use Rattle.code.specs.Cells.{listed};
 ghost use Rattle.code.specs.Calls.{filled, layoutFields, layoutReply};
 ghost use Rattle.counting.specs.Cap.{cap};
-ghost use Rattle.layout.specs.Climb.{held, Least, Climbed, Cut, Asked, Short};
+ghost use Rattle.layout.specs.Climb.{held, Least, Climbed, Cut, Aimed, Asked, Short};
 
 // The largest range.
 const V_MAX: u64 = 0x0100_0000_0000_0000;
@@ -100,23 +100,24 @@ fn least_factor(b: u64, need: u64) -> u64
     (need - 1) / b + 1
 }
 
-// The patterns of low + d groups: those of at most d written places, those of d, and those of d + 1 before the value of the last is chosen.
+// The patterns of low + d groups: those of at most d written places, and those of d + 1 before the value of the last is chosen. Those go up by `scale`,
+// b values for each of low + d + 1 groups, over d + 2.
 struct Sum {
     all: u64,
-    term: u64,
     more: u64,
+    scale: u64,
 }
 
-// One place up, by Pascal's rule.
+// One place up, by Pascal's rule; low stands here for the promise.
 fn grow(b: u64, low: u64, d: u64, s: Sum) -> Sum
     requires { ⌜ (0 < b) × (low ≤ 255) × ((s .all + s .more) * b < cap) ⌝ }
-    requires { ⌜ Climbed b low d (s .all) (s .term) (s .more) ⌝ }
-    ensures { λ r. ⌜ Climbed b low (d + 1) (r .all) (r .term) (r .more) ⌝ }
+    requires { ⌜ Climbed b low d (s .all) (s .more) (s .scale) ⌝ }
+    ensures { λ r. ⌜ Climbed b low (d + 1) (r .all) (r .more) (r .scale) ⌝ }
 {
     let all = s.all + (s.all + s.more) * b;
-    let term = (s.term + s.more) * b;
-    let more = term * low / (d + 2);
-    Sum { all, term, more }
+    let more = s.more * s.scale / (d + 2);
+    let scale = s.scale + b;
+    Sum { all, more, scale }
 }
 
 // Where d places above low do not reach need, one more does.
@@ -133,7 +134,7 @@ fn reached(low: u64, d: u64, all: u64, need: u64) -> u64
 // The climb from `from` places above low on. Equal ranges take at most 15 places.
 fn climb_on(b: u64, low: u64, need: u64, cut: u64, start: Sum, from: u64) -> u64
     requires { ⌜ Asked b low need cut ⌝ }
-    requires { ⌜ (Climbed b low from (start .all) (start .term) (start .more)) × Short b low need from ⌝ }
+    requires { ⌜ (Climbed b low from (start .all) (start .more) (start .scale)) × Short b low need from ⌝ }
     ensures { λ r. ⌜ Least (held b 0 low) need low r ⌝ }
 {
     let mut s = start;
@@ -152,8 +153,8 @@ fn climb(b: u64, low: u64, need: u64, cut: u64) -> u64
 {
     let mut s = Sum {
         all: 1,
-        term: 1,
         more: low,
+        scale: (low + 1) * b,
     };
     let mut d: u64 = 0;
     // So few turns are laid out one behind the other by the compiler, and each divides by a constant.
@@ -181,20 +182,43 @@ struct Goal {
     cut: u64,
 }
 
-// The goal of a later generation of the range v: the pattern with no written place holds no number there, so one more than v is needed. It is the goal
-// of the generation behind it where the ranges are equal, so that they take one division together.
-fn goal_of(b: u64, v: u64, behind: Goal) -> Goal
-    requires { ⌜ (0 < b) × (v < cap) × (Cut b (behind .need) (behind .cut)) ⌝ }
+// The goal of a later generation of the range v: the pattern with no written place holds no number there, so one more than v is needed.
+fn goal_of(b: u64, v: u64) -> Goal
+    requires { ⌜ (0 < b) × (v < cap) ⌝ }
     ensures { λ r. ⌜ (r .need ≡ v + 1) × (Cut b (r .need) (r .cut)) ⌝ }
 {
-    let need = v + 1;
-    if need == behind.need {
+    Goal {
+        need: v + 1,
+        cut: least_factor(b, v + 1),
+    }
+}
+
+// The goal before the first climb: where there is one range, that of all climbs, and in form 2 one that no range has.
+fn first_goal(f: Frame, v: &[u64; 16], b: u64) -> Goal
+    requires { ⌜ (Bounds (framed f (now v))) × (0 < b) ⌝ }
+    ensures { λ r. ⌜ Aimed b (f .form) (getD (now (v .entry)) 0 0) (r .need) (r .cut) ⌝ }
+{
+    if f.form == 2 {
+        return Goal { need: 1, cut: 1 };
+    }
+    goal_of(b, v[0])
+}
+
+// The goal at place i, by that of the place behind it: where they are the same they take one division together.
+fn goal_at(f: Frame, v: &[u64; 16], i: usize, b: u64, behind: Goal) -> Goal
+    requires { ⌜ (Bounds (framed f (now v))) × (i < f .t) × (0 < b) ⌝ }
+    requires { ⌜ Aimed b (f .form) (getD (now v) 0 0) (behind .need) (behind .cut) ⌝ }
+    ensures { λ r. ⌜ r .need ≡ getD (rangesOf (framed f (now (v .entry)))) i 0 + 1 ⌝ }
+    ensures { λ r. ⌜ Aimed b (f .form) (getD (now (v .entry)) 0 0) (r .need) (r .cut) ⌝ }
+{
+    if f.form != 2 {
         return behind;
     }
-    Goal {
-        need,
-        cut: least_factor(b, need),
+    let range = range_at(f, v, i);
+    if range + 1 == behind.need {
+        return behind;
     }
+    goal_of(b, range)
 }
 
 // The layout within the bounds.
@@ -210,10 +234,9 @@ fn grant(h: &mut [u64; 16], f: Frame, v: &[u64; 16], g: u64) -> u64
         return refuse(h);
     }
     h[i] = low;
-    // Behind the last generation nothing is needed but the pattern with no written place.
-    let mut goal = Goal { need: 1, cut: 1 };
+    let mut goal = first_goal(f, v, e - 1);
     while 1 < i {
-        goal = goal_of(e - 1, range_at(f, v, i - 1), goal);
+        goal = goal_at(f, v, i - 1, e - 1, goal);
         low = climb(e - 1, low, goal.need, goal.cut);
         if g <= low {
             return refuse(h);
@@ -287,6 +310,8 @@ pub fn lay_out(s: Shape, g: u64) -> Layout
     ensures { λ r. ⌜ (r .refusal ∷ r .h) ≡ filled layoutFields (layoutReply s g) ⌝ }
 {
     let mut h = [0u64; 16];
-    let refusal = lay_into(&mut h, frame(s), &s.v, g);
+    // The ranges alone are copied: to lend a part of the shape would copy all of it.
+    let v = s.v;
+    let refusal = lay_into(&mut h, frame(s), &v, g);
     Layout { refusal, h }
 }

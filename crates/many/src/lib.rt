@@ -135,15 +135,16 @@ fn write_all(s: Shape, cells: &mut [u8], numbers: &[u64], rows: &mut [u16; 128])
     }
     let mut h = [0u64; 16];
     let f = layout::frame(s);
-    let refusal = layout::lay_into(&mut h, f, &s.v, 256);
+    let v = s.v;
+    let refusal = layout::lay_into(&mut h, f, &v, 256);
     if refusal != 0 {
         return refuse(refusal);
     }
-    let size = field_bytes(&h, f, &s.v);
+    let size = field_bytes(&h, f, &v);
     if cells.len() != numbers.len() * size {
         return refuse(3);
     }
-    write_fields(&h, f, &s.v, cells, size, numbers, rows)
+    write_fields(&h, f, &v, cells, size, numbers, rows)
 }
 
 // One number for each field, written in order; the first refusal ends it, and the fields before it stay written.

@@ -354,11 +354,12 @@ pub fn read(s: Shape, cells: &[u8]) -> Reading
 {
     let mut h = [0u64; 16];
     let f = layout::frame(s);
-    let refusal = layout::lay_into(&mut h, f, &s.v, 256);
+    let v = s.v;
+    let refusal = layout::lay_into(&mut h, f, &v, 256);
     if refusal != 0 {
         return Reading::Refused(Refusal::Plain(refusal));
     }
-    read_granted(&h, f, &s.v, cells)
+    read_granted(&h, f, &v, cells)
 }
 
 pub fn flat_refusal(refusal: Refusal) -> RefusalFields

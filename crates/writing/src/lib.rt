@@ -243,11 +243,12 @@ pub fn write(s: Shape, cells: &mut [u8], x: u64) -> Writing
 {
     let mut h = [0u64; 16];
     let f = layout::frame(s);
-    let refusal = layout::lay_into(&mut h, f, &s.v, 256);
+    let v = s.v;
+    let refusal = layout::lay_into(&mut h, f, &v, 256);
     if refusal != 0 {
         return Writing::Refused(Refusal::Plain(refusal));
     }
-    write_granted(&h, f, &s.v, cells, x)
+    write_granted(&h, f, &v, cells, x)
 }
 
 pub fn flat(writing: Writing) -> WriteFields

@@ -1,5 +1,6 @@
 -- `layout::climb` meets its contract. Assumes nothing.
-use Prim.Native.Nat.{_-_}
+use Prim.Native.Nat.{_+_, _-_}
+use native.Mathlib.Nat.{mul-le-mul}
 use native.Mathlib.Omega.{arith}
 use borrow.Author.Needs.{needs}
 use Rattle.layout.specs.Climb.{Climbed, Short}
@@ -8,7 +9,7 @@ use Rattle.layout.proofs.climb.Statement.{statement}
 use Rattle.layout.proofs.climb.Tie as tie
 
 abbrev Inv-loop : tie.InvT-loop
-Inv-loop b low need cut s₀ d₀ s d = Climbed b low d (s .all) (s .term) (s .more) × Short b low need d
+Inv-loop b low need cut s₀ d₀ s d = Climbed b low d (s .all) (s .more) (s .scale) × Short b low need d
 
 abbrev μ-loop : tie.MeasureT-loop
 μ-loop b low need cut s₀ d₀ s d = 16 - d
@@ -19,6 +20,10 @@ climb-spec =
     (tie.spec
     Inv-loop
     μ-loop
+    -- add-s
+    (λ c. search needs)
+    -- mul-s
+    (λ c. let A = c .pre in omega (arith, mul-le-mul {n₁ = c .args .low + 1} {n₂ = 256} (omega (arith, A .within)) (A .few)))
     -- loop-holds
     (λ c. let a = c .args in (climb-begin (a .b) (a .low) (c .pre .within), short-begin (a .b) (a .low) (a .need) (omega (arith, c .pre .some))))
     -- add-if1

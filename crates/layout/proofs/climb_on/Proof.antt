@@ -8,7 +8,7 @@ use Rattle.layout.proofs.climb_on.Statement.{statement}
 use Rattle.layout.proofs.climb_on.Tie as tie
 
 abbrev Inv-loop : tie.InvT-loop
-Inv-loop b low need cut from s₀ d₀ s d = Climbed b low d (s .all) (s .term) (s .more) × Short b low need d
+Inv-loop b low need cut from s₀ d₀ s d = Climbed b low d (s .all) (s .more) (s .scale) × Short b low need d
 
 abbrev μ-loop : tie.MeasureT-loop
 μ-loop b low need cut from s₀ d₀ s d = cap - d

@@ -4,9 +4,10 @@ use Prim.Native.Nat.{_-_, _<_}
 use native.Mathlib.Omega.{arith}
 use borrow.Author.Needs.{needs}
 use denote.Ref.{now}
+use lib.ListN.{getD}
 use Rattle.code.specs.Shape.{framed, firstOf, rangesOf}
-use Rattle.code.proofs.LayoutCall.{ranges-length, first-form}
-use Rattle.layout.specs.Climb.{Cut}
+use Rattle.code.proofs.LayoutCall.{ranges-length, range-within, first-form}
+use Rattle.layout.specs.Climb.{Aimed}
 use Rattle.layout.proofs.Least.{least-last, least-room}
 use Rattle.layout.proofs.Pascal.{least-from}
 use Rattle.layout.proofs.Tail.{Tail, tail-begin}
@@ -16,7 +17,7 @@ use Rattle.layout.proofs.grant.Tie as tie
 
 abbrev Inv-loop : tie.InvT-loop
 Inv-loop h₀ f v g e i₀ low₀ goal₀ h i low goal =
-    Tail g e (f .t) (rangesOf (framed f v)) i low h × (0 < i) × (0 < low) × (low < g) × Cut (e - 1) (goal .need) (goal .cut)
+    Tail g e (f .t) (rangesOf (framed f v)) i low h × (0 < i) × (0 < low) × (low < g) × Aimed (e - 1) (f .form) (getD v 0 0) (goal .need) (goal .cut)
 
 abbrev μ-loop : tie.MeasureT-loop
 μ-loop h₀ f v g e i₀ low₀ goal₀ h i low goal = i
@@ -51,28 +52,44 @@ grant-spec =
     (λ c. search needs)
     -- element-write-h
     (λ c. search needs)
+    -- sub-first-goal
+    (λ c. search needs)
+    -- first-goal-requires
+    (λ c κs. search needs)
     -- loop-holds
     (λ c.
-    let a = c .before .before .before .before in
+    let a = c .before .before .before .before .before in
     let s = framed (a .args .f) (now (a .args .v)) in
-    let o = c .before .before .before .all-ones in
+    let o = c .before .before .before .before .all-ones in
     let e = o .result in
     let T = tail-begin (a .args .g) e (s .t) (rangesOf s) (omega arith) (ranges-length s (a .pre .0 .0)) (omega arith) (a .pre .1 .1) in
-    let L = least-last e (e - 1) 1 (c .before .last-count .ensures) in
-    let T′ = stored s (a .pre .1 .0) (o .ensures .0) T (s .t - 1) (omega arith) (c .before .before .range-at .ensures .0) L (omega arith) in
-    (T′, omega arith, L .above, c .if1 .left, record { enough = omega arith; least = omega arith }))
-    -- sub-goal-of
+    let L = least-last e (e - 1) 1 (c .before .before .last-count .ensures) in
+    let T′ = stored s (a .pre .1 .0) (o .ensures .0) T (s .t - 1) (omega arith) (c .before .before .before .range-at .ensures .0) L (omega arith) in
+    (T′, omega arith, L .above, c .before .if1 .left, c .first-goal .ensures))
+    -- sub-goal-at
     (λ c. search needs)
-    -- sub-range-at
+    -- sub-goal-at-2
     (λ c. search needs)
-    -- range-at-requires-2
-    (λ c κs. search needs)
-    -- goal-of-requires
-    (λ c κs. search needs)
+    -- goal-at-requires
+    (λ c κs.
+    let l = c .before .loop in
+    let a = c .before .before .before .before .before .before .before in
+    ((a .pre .0 .0, omega arith, omega arith), l .inv .4))
     -- sub-climb
     (λ c. search needs)
     -- climb-requires
-    (λ c κs. search needs)
+    (λ c κs.
+    let a = c .before .before .before .before .before .before .before .before in
+    let goal = c .goal-at .ensures in
+    let w = range-within (framed (a .args .f) (now (a .args .v))) (a .pre .0 .0) (c .before .before .loop .i - 1) (omega arith) in
+    record {
+      values = omega arith;
+      few = omega arith;
+      within = omega arith;
+      some = omega (arith, w .0, goal .0);
+      most = omega (arith, w .1, goal .0);
+      cuts = goal .1 .cuts;
+    })
     -- refuse-requires-2
     (λ c κs. search needs)
     -- returns-2
@@ -81,13 +98,12 @@ grant-spec =
     let s = framed (a .args .f) (now (a .args .v)) in
     let o = c .before .before .before .before .before .before .before .before .before .before .before .all-ones in
     let e = o .result in
-    let l = c .before .before .before .before .before .before .before .loop in
-    let r = c .before .before .before .before .before .range-at2 in
-    let need = c .before .before .before .before .goal-of .ensures .0 in
-    let H = least-from (e - 1) 1 (r .result) (omega arith) (c .before .before .before .climb .ensures) (omega arith) in
+    let l = c .before .before .before .before .before .before .loop in
+    let need = c .before .before .before .before .goal-at .ensures .0 in
+    let H = least-from (e - 1) 1 _ (omega arith) (c .before .before .before .climb .ensures) (omega arith) in
     let L = least-room e (e - 1) 1 (l .inv .2) H in
     c .refuse2 .ensures
-    ∙ refused s (a .pre .1 .0) (o .ensures .0) (l .inv .0) (l .i - 1) (omega arith) (r .ensures .0) L (omega arith) (c .before .before .if2 .taken))
+    ∙ refused s (a .pre .1 .0) (o .ensures .0) (l .inv .0) (l .i - 1) (omega arith) refl L (omega arith) (c .before .before .if2 .taken))
     -- sub-i-2
     (λ c. search needs)
     -- mul-h-2
@@ -102,14 +118,13 @@ grant-spec =
     let s = framed (a .args .f) (now (a .args .v)) in
     let o = c .before .before .before .before .before .before .before .before .before .all-ones in
     let e = o .result in
-    let l = c .before .before .before .before .before .loop in
-    let r = c .before .before .before .range-at2 in
-    let need = c .before .before .goal-of .ensures .0 in
-    let H = least-from (e - 1) 1 (r .result) (omega arith) (c .before .climb .ensures) (omega arith) in
+    let l = c .before .before .before .before .loop in
+    let need = c .before .before .goal-at .ensures .0 in
+    let H = least-from (e - 1) 1 _ (omega arith) (c .before .climb .ensures) (omega arith) in
     let L = least-room e (e - 1) 1 (l .inv .2) H in
-    let T = stored s (a .pre .1 .0) (o .ensures .0) (l .inv .0) (l .i - 1) (omega arith) (r .ensures .0) L (omega arith) in
-    (T, omega arith, omega (arith, L .above), c .if2 .left, c .before .before .goal-of .ensures .1))
-    -- range-at-requires-3
+    let T = stored s (a .pre .1 .0) (o .ensures .0) (l .inv .0) (l .i - 1) (omega arith) refl L (omega arith) in
+    (T, omega arith, omega (arith, L .above), c .if2 .left, c .before .before .goal-at .ensures .1))
+    -- range-at-requires-2
     (λ c κs. search needs)
     -- first-requires
     (λ c κs. search needs)
@@ -123,12 +138,12 @@ grant-spec =
     (λ c κs. search needs)
     -- returns-3
     (λ c.
-    let a = c .before .before .before .before .before .before .before .before .before .before .before .before .before in
+    let a = c .before .before .before .before .before .before .before .before .before .before .before .before .before .before in
     let s = framed (a .args .f) (now (a .args .v)) in
-    let o = c .before .before .before .before .before .before .before .before .before .before .before .before .all-ones in
+    let o = c .before .before .before .before .before .before .before .before .before .before .before .before .before .all-ones in
     let e = o .result in
     let l = c .before .before .before .before .before .before .before .before .loop in
-    let r = c .before .before .before .before .before .before .range-at3 in
+    let r = c .before .before .before .before .before .before .range-at2 in
     let one = firstOf s in
     let lead = c .before .before .before .before .before .first .ensures .0 (s .v) in
     let H = least-from e one (r .result) (first-form s) (c .before .before .before .climb2 .ensures) (omega arith) in
@@ -138,12 +153,12 @@ grant-spec =
     (λ c. search needs)
     -- returns-4
     (λ c.
-    let a = c .before .before .before .before .before .before .before .before .before .before .before in
+    let a = c .before .before .before .before .before .before .before .before .before .before .before .before in
     let s = framed (a .args .f) (now (a .args .v)) in
-    let o = c .before .before .before .before .before .before .before .before .before .before .all-ones in
+    let o = c .before .before .before .before .before .before .before .before .before .before .before .all-ones in
     let e = o .result in
     let l = c .before .before .before .before .before .before .loop in
-    let r = c .before .before .before .before .range-at3 in
+    let r = c .before .before .before .before .range-at2 in
     let one = firstOf s in
     let lead = c .before .before .before .first .ensures .0 (s .v) in
     let H = least-from e one (r .result) (first-form s) (c .before .climb2 .ensures) (omega arith) in

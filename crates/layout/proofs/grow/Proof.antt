@@ -1,6 +1,6 @@
 -- `layout::grow` meets its contract. Assumes nothing.
 use native.Mathlib.Omega.{arith}
-use Rattle.layout.proofs.Pascal.{term-small, all-room, term-room, more-room, climb-turn}
+use Rattle.layout.proofs.Pascal.{all-room, scale-room, more-room, climb-turn}
 use borrow.Author.Needs.{needs}
 use Rattle.layout.proofs.grow.Statement.{statement}
 use Rattle.layout.proofs.grow.Tie as tie
@@ -15,15 +15,13 @@ grow-spec =
     (λ c. search needs)
     -- add-all-2
     (λ c. omega (arith, all-room (c .before .before .pre .1) (omega arith) (omega arith)))
-    -- add-term
-    (λ c. omega (arith, c .before .before .before .pre .1 .fits, term-small (c .before .before .before .pre .1)))
-    -- mul-term
-    (λ c. omega (arith, term-room (c .before .before .before .pre .1) (omega arith) (omega arith)))
     -- mul-more
     (λ c. omega (arith, more-room (c .before .before .before .pre .1) (omega arith) (omega arith) (omega arith)))
     -- add-more
-    (λ c. let C = c .before .before .before .pre .1 in omega (arith, C .far, all-room C (omega arith) (omega arith)))
+    (λ c. search needs)
     -- div-more
     (λ c. search needs)
+    -- add-scale
+    (λ c. omega (arith, scale-room (c .before .before .before .before .pre .1) (omega arith) (omega arith)))
     -- returns
-    (λ c. climb-turn (c .before .before .before .pre .1) (omega arith) (omega arith) (omega arith)))
+    (λ c. climb-turn (c .before .before .before .before .pre .1) (omega arith) (omega arith) (omega arith)))

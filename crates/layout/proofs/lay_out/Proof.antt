@@ -12,4 +12,4 @@ lay-out-spec =
     -- lay-into-requires
     (λ c κs. search needs)
     -- returns
-    (λ c. rw (c .before .before .before .frame .ensures) at (c .lay-into .ensures)))
+    (λ c. rw (c .before .before .frame .ensures) at (c .lay-into .ensures)))

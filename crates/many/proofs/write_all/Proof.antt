@@ -27,35 +27,35 @@ write-all-spec =
     let none = plan-refused _ (rw (l .before .before .before .before .frame .ensures) at (l .lay-into .ensures)) some in
     no-layout _ _ _ (omega (arith, few .if1 .left)) _ none _ _ (c .refuse2 .ensures) (few .before .before .before .pre))
     -- field-bytes-requires
-    (λ c κs. plan-granted _ (c .before .before .before .before .lay-into .ensures) (c .before .before .before .if2 .left))
+    (λ c κs. plan-granted _ (c .before .before .before .lay-into .ensures) (c .before .before .if2 .left))
     -- mul-if3
     (λ c.
-    let few = c .before .before .before .before .before .before .before .before .before .before .if1 .left in
+    let few = c .before .before .before .before .before .before .before .before .before .if1 .left in
     record { fits = omega (arith, mul-le-mul few (c .field-bytes .ensures .1)) })
     (λ c κs. search needs)
     -- returns-3
     (λ c.
     let d = c .before in
-    let l = d .before .before .before .before .before .before in
+    let l = d .before .before .before .before .before in
     let few = l .before .before .before .before .before in
     let same = l .before .before .before .before .frame .ensures in
-    let G = plan-granted _ (rw same at (l .lay-into .ensures)) (d .before .before .before .before .before .if2 .left) in
+    let G = plan-granted _ (rw same at (l .lay-into .ensures)) (d .before .before .before .before .if2 .left) in
     let other = rw (rw same at (d .before .field-bytes .ensures .0)) at (d .if3 .taken) in
     other-length _ _ _ (omega (arith, few .if1 .left)) (G .ok) other _ _ (c .refuse3 .ensures) (few .before .before .before .pre))
     -- write-fields-requires
     (λ c κs.
-    let d = c .before .before .before .before .before in
-    let l = d .before .before .before .before .before .before in
+    let d = c .before .before .before .before in
+    let l = d .before .before .before .before .before in
     let few = l .before .before .before .before .before in
-    let G = plan-granted _ (l .lay-into .ensures) (d .before .before .before .before .before .if2 .left) in
+    let G = plan-granted _ (l .lay-into .ensures) (d .before .before .before .before .if2 .left) in
     ((G, d .before .field-bytes .ensures .0, omega (arith, few .if1 .left), d .if3 .left), few .before .before .before .pre))
     (λ c. search needs)
     -- returns-4
     (λ c.
-    let d = c .before .before .before .before .before .before .before .before in
-    let l = d .before .before .before .before .before .before in
+    let d = c .before .before .before .before .before .before .before in
+    let l = d .before .before .before .before .before in
     let few = l .before .before .before .before .before in
     let same = l .before .before .before .before .frame .ensures in
-    let G = plan-granted _ (rw same at (l .lay-into .ensures)) (d .before .before .before .before .before .if2 .left) in
+    let G = plan-granted _ (rw same at (l .lay-into .ensures)) (d .before .before .before .before .if2 .left) in
     let long = rw (rw same at (d .before .field-bytes .ensures .0)) at (d .if3 .left) in
     written-in-order _ _ _ (omega (arith, few .if1 .left)) (G .ok) long (rw same at (c .before .before .write-fields .ensures))))

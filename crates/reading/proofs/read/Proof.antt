@@ -16,6 +16,6 @@ read-spec =
     -- returns
     (λ c. reads-refused _ _ (rw (c .before .before .before .before .before .frame .ensures) at (c .before .lay-into .ensures)) (c .if1 .taken))
     -- read-granted-requires
-    (λ c κs. plan-granted _ (c .before .before .before .before .lay-into .ensures) (c .before .before .before .if1 .left))
+    (λ c κs. plan-granted _ (c .before .before .before .lay-into .ensures) (c .before .before .if1 .left))
     -- returns-2
-    (λ c. rw (c .before .before .before .before .before .before .before .before .before .frame .ensures) at (c .read-granted .ensures)))
+    (λ c. rw (c .before .before .before .before .before .before .before .before .frame .ensures) at (c .read-granted .ensures)))

@@ -16,10 +16,10 @@ write-spec =
     -- returns
     (λ c. writes-refused _ _ _ (rw (c .before .before .before .before .before .frame .ensures) at (c .before .lay-into .ensures)) (c .if1 .taken))
     -- write-granted-requires
-    (λ c κs. plan-granted _ (c .before .before .before .before .before .lay-into .ensures) (c .before .before .before .before .if1 .left))
+    (λ c κs. plan-granted _ (c .before .before .before .before .lay-into .ensures) (c .before .before .before .if1 .left))
     -- same-length
     (λ c. search needs)
     -- returns-2
     (λ c.
     let w = c .before .before in
-    rw (w .before .before .before .before .before .before .before .before .before .before .frame .ensures) at (w .write-granted .ensures)))
+    rw (w .before .before .before .before .before .before .before .before .before .frame .ensures) at (w .write-granted .ensures)))

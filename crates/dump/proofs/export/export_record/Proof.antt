@@ -13,11 +13,11 @@ export-record-spec =
     tie.close
     (tie.spec
     -- returns
-    (λ c. let a = c .before .before .before .args in export-late (newExport (a .serial) (a .layout) (a .t3)) _ _ (omega arith))
+    (λ c. let a = c .before .before .before .args in export-late (newExport (a .serial) (a .layout) (a .shape)) _ _ (omega arith))
     -- returns-2
     (λ c.
     let a = c .before .before .before .before .args in
-    export-off-list (newExport (a .serial) (a .layout) (a .t3)) _ _ (omega arith) (lt-ltb 63 (a .layout) (omega arith)))
+    export-off-list (newExport (a .serial) (a .layout) (a .shape)) _ _ (omega arith) (lt-ltb 63 (a .layout) (omega arith)))
     (λ c κs. search needs)
     (λ c. search needs)
     -- export-cells-requires
@@ -26,5 +26,5 @@ export-record-spec =
     -- returns-3
     (λ c.
     let a = c .before .before .before .before .before .before .before .before .before .before .before .before .args in
-    let x = newExport (a .serial) (a .layout) (a .t3) in
-    c .before .before .export-cells .ensures x (sym (c .before .before .before .before .before .before .before .frame .ensures)) refl (omega arith) (le-ltb 63 (a .layout) (omega arith))))
+    let x = newExport (a .serial) (a .layout) (a .shape) in
+    c .before .before .export-cells .ensures x (sym (c .before .before .before .before .before .before .frame .ensures)) refl (omega arith) (le-ltb 63 (a .layout) (omega arith))))
