@@ -1,4 +1,4 @@
--- What the functions of this program need in order to stay within what they are lent.
+-- What the functions of this program need in order to stay within what they are lent (no rule).
 use Prim.Native.Nat.{ℕ, _+_, _*_, _≤_}
 use mathlib.Core.List.{List}
 use lib.ListN.{length}

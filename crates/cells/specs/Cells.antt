@@ -1,4 +1,5 @@
--- What moving a field between bytes and words promises. The wits of cells are a function from a wit's number to 0 or 1.
+-- Document 01, "Cells in bytes" (RULES 3): what moving a field between bytes and words promises. The wits of cells are a function from a wit's number to 0
+-- or 1.
 use Prim.Native.Nat.{ℕ, _+_, _*_, _-_, _^_, _/_, _%_, _<_, _≤_}
 use mathlib.Core.Path.{_≡_}
 use mathlib.Core.Bool.{true}

@@ -1,4 +1,4 @@
--- Intel HEX: lines as they are writtenLine read back, and the length of a text.
+-- Intel HEX: lines as they are written read back, and the length of a text.
 use Prim.Native.Nat.{ℕ, zero, suc, _+_, _*_, _-_, _/_, _%_, _≤_, _<_}
 use mathlib.Core.Path.{_≡_, refl, ap}
 use mathlib.Core.Logic.{inl, inr}

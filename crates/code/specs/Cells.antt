@@ -1,4 +1,4 @@
--- Document 01, "Cells in bytes". Cells are bytes; their wits are a function from a wit's number to 0 or 1.
+-- Document 01, "Cells in bytes" (RULES 3). Cells are bytes; their wits are a function from a wit's number to 0 or 1.
 use Prim.Native.Nat.{ℕ, zero, suc, _+_, _*_, _-_, _^_, _/_, _%_}
 use mathlib.Core.Bool.{Bool, _&&_}
 use mathlib.Core.List.{List, [], _∷_}
@@ -24,7 +24,7 @@ unfoldable pub listed : (ℕ → ℕ) → ℕ → ℕ → List ℕ
 listed f i zero = []
 listed f i (suc n) = f i ∷ listed f (suc i) n
 
--- 01, Writing: "add up": f 0 + .. + f (n − 1)
+-- 01, Writing; RULES 14: "add up": f 0 + .. + f (n − 1)
 unfoldable pub sum : (ℕ → ℕ) → ℕ → ℕ
 sum f zero = 0
 sum f (suc n) = sum f n + f n
@@ -37,7 +37,7 @@ group m f j = value f (m * j) m
 unfoldable pub groups : ℕ → ℕ → (ℕ → ℕ) → List ℕ
 groups m h f = listed (group m f) 0 h
 
--- 01, Cells in bytes: the groups in a buffer
+-- 01, Cells in bytes; RULES 3: the groups in a buffer
 abbrev pub opened : ℕ → ℕ → ℕ → List ℕ → List ℕ
 opened order m h bytes = groups m h (wit order bytes)
 
@@ -57,14 +57,14 @@ witOf m gs w = getD gs (w / m) 0 / 2 ^ (m - 1 - w % m) % 2
 unfoldable pub byteOf : ℕ → (ℕ → ℕ) → ℕ → ℕ
 byteOf order f i = sum (λ k. f (8 * i + k) * 2 ^ place order k) 8
 
--- 01, Cells in bytes: the buffer of groups
+-- 01, Cells in bytes; RULES 3: the buffer of groups
 unfoldable pub stored : ℕ → ℕ → List ℕ → List ℕ
 stored order m gs = listed (byteOf order (witOf m gs)) 0 (size m (length gs))
 
--- 01, Writing: "the number of ones in the cells"
+-- 01, Writing; RULES 14: "the number of ones in the cells"
 unfoldable pub ones : ℕ → List ℕ → ℕ
 ones order bytes = sum (wit order bytes) (8 * length bytes)
 
--- 01, Writing: "the count of wits turned from 0 to 1"
+-- 01, Writing; RULES 6: "the count of wits turned from 0 to 1"
 unfoldable pub turned : ℕ → List ℕ → List ℕ → ℕ
 turned order before after = sum (λ w. wit order after w - wit order before w) (8 * length before)

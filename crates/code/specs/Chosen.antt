@@ -1,4 +1,4 @@
--- Document 01, "Dealing numbers to patterns": the written places of a pattern by label and value, leftmost first, as the code carries them.
+-- Document 01, "Dealing numbers to patterns" (RULES 4): the written places of a pattern by label and value, leftmost first, as the code carries them.
 use Prim.Native.Nat.{ℕ, zero, suc, _+_}
 use mathlib.Core.Path.{_≡_}
 use mathlib.Core.List.{List, [], _∷_}

@@ -1,4 +1,4 @@
--- Document 01, "Dealing numbers to patterns". A pattern is the list of its places' values, leftmost first; a place is written where its value is not 0.
+-- Document 01, "Dealing numbers to patterns" (RULES 4). A pattern is the list of its places' values, leftmost first; a place is written where its value is not 0.
 use Prim.Native.Nat.{ℕ, zero, suc, _+_, _*_, _-_, _^_, _/_, _%_}
 use mathlib.Core.Bool.{cond}
 use mathlib.Core.List.{List, [], _∷_}
@@ -12,7 +12,8 @@ written [] = 0
 written (zero ∷ xs) = written xs
 written (suc x ∷ xs) = suc (written xs)
 
--- 003, equation (3): "chosen labels i_1 > .. > i_k give C(i_1, k) + C(i_2, k − 1) + .. + C(i_k, 1)"; a place's label is the number of places to its right
+-- 003, equation (3); RULES 4: "chosen labels i_1 > .. > i_k give C(i_1, k) + C(i_2, k − 1) + .. + C(i_k, 1)"; a place's label is the number of places to its
+-- right
 unfoldable pub rank : List ℕ → ℕ
 rank [] = 0
 rank (zero ∷ xs) = rank xs

@@ -1,4 +1,5 @@
--- Document 01, "Dumps", and document 02, §3, "Layouts said once": records, the walk of both kinds of dump, export and the text of `fieldlist`.
+-- Document 01, "Dumps", and document 02, §3, "Layouts said once" (RULES 8, 9, 10, 12, 13): records, the walk of both kinds of dump, export and the text of
+-- `fieldlist`.
 use Prim.Native.Nat.{ℕ, zero, suc, _+_, _*_, _-_, _^_, _/_, _%_}
 use Prim.Native.Char.{code}
 use Prim.Native.String.{String, [] as nothing, _∷_ as _before_}
@@ -14,11 +15,11 @@ use Rattle.code.specs.Calls.{refusal, answer, leaves, readFields, unsoun
 use Rattle.code.specs.Numerals.{numeralsOf, Numbers, cut, numbers, readNumbers}
 use Rattle.code.specs.LayoutList.{Listed, unlisted, listedShape, Layouts, brokenList, layouts, layoutList}
 
--- 01: "as numbers, then n bytes": a record with so many numbers before n
+-- 01, Dumps; RULES 8, 9: "as numbers, then n bytes": a record with so many numbers before n
 unfoldable pub recordOf : List ℕ → List ℕ → List ℕ
 recordOf head cells = numeralsOf (head ++ (length cells ∷ [])) ++ cells
 
--- what an export is given beside the cells and the output: its serial, whether its layout has a number that no list has, the field's shape, and the
+-- RULES 8, 9: what an export is given beside the cells and the output: its serial, whether its layout has a number that no list has, the field's shape, and the
 -- numbers before n, its head
 pub record Exporting : Type 0 where
   pub serial : ℕ
@@ -26,15 +27,15 @@ pub record Exporting : Type 0 where
   pub shape : Shape
   pub head : List ℕ
 
--- 01: "A record is serial, m, t, v, n"
+-- 01, Dumps; RULES 8: "A record is serial, m, t, v, n"
 abbrev pub oldExport : ℕ → ℕ → ℕ → ℕ → Exporting
 oldExport serial m t v = record { serial = serial; offList = false; shape = shaped m t v; head = serial ∷ m ∷ t ∷ v ∷ [] }
 
--- 02: "records of serial, layout number from 0, n", the number of one of "at most 64" layouts
+-- 02, §3; RULES 9: "records of serial, layout number from 0, n", the number of one of "at most 64" layouts
 abbrev pub newExport : ℕ → ℕ → Shape → Exporting
 newExport serial layout s = record { serial = serial; offList = ltb 63 layout; shape = s; head = serial ∷ layout ∷ [] }
 
--- the table's rows for export, in its order: 10, 1, 2, 3, 9
+-- 01, Refusal numbers; RULES 12: the table's rows for export, in its order: 10, 1, 2, 3, 9
 unfoldable pub exportRefusal : Exporting → List ℕ → List ℕ → List ℕ
 exportRefusal x cells out = refusal (
     (10 ∷ [], ltb (2 ^ 63 - 1) (x .serial)) ∷
@@ -43,27 +44,28 @@ exportRefusal x cells out = refusal (
     (3 ∷ [], unsound (x .shape) cells) ∷
     (9 ∷ [], ltb (length out) (length (recordOf (x .head) cells))) ∷ [])
 
--- "answers its length"
+-- 01, Refusal numbers; RULES 13: "answers its length"
 unfoldable pub exportReply : Exporting → List ℕ → List ℕ → List ℕ
 exportReply x cells out = answer (exportRefusal x cells out) (length (recordOf (x .head) cells) ∷ [])
 
--- "An accepted export stores the record at the front of the output, leaves later bytes unchanged"
+-- 01, Refusal numbers; RULES 13: "An accepted export stores the record at the front of the output, leaves later bytes unchanged"
 unfoldable pub exportLeaves : Exporting → List ℕ → List ℕ → List ℕ
 exportLeaves x cells out =
     let made = recordOf (x .head) cells in
     leaves (exportRefusal x cells out) (made ++ drop (length made) out) out
 
--- how the records of a dump say their layouts: "serial, m, t, v", each its own (01), or "serial, layout number from 0" of a list (02)
+-- 01, Dumps; 02, §3; RULES 8, 9: how the records of a dump say their layouts: "serial, m, t, v", each its own, or "serial, layout number from 0" of a list
 pub data Source : Type 0 where
   ownLayouts : Source
   listedLayouts : List Listed → Source
 
--- how many numbers stand before n
+-- RULES 8, 9: how many numbers stand before n
 abbrev pub headLength : Source → ℕ
 headLength ownLayouts = 4
 headLength (listedLayouts ls) = 2
 
--- "The walk gives serial, m, t, v and the record's cell bytes": the cells are the `count` bytes from `start` on; the layout's number is 0 in an old dump
+-- 01, Dumps; RULES 8, 9: "The walk gives serial, m, t, v and the record's cell bytes": the cells are the `count` bytes from `start` on; the layout's number is
+-- 0 in an old dump
 pub record Record : Type 0 where
   pub serial : ℕ
   pub layout : ℕ
@@ -71,67 +73,67 @@ pub record Record : Type 0 where
   pub start : ℕ
   pub count : ℕ
 
--- a record; the end; or a stop with its refusal and what that carries
+-- RULES 8: a record; the end; or a stop with its refusal and what that carries
 pub data Step : Type 0 where
   taken : Record → Step
   ended : Step
   stopped : ℕ → List ℕ → Step
 
--- the record of the numbers before its cells, which start behind them
+-- RULES 8, 9: the record of the numbers before its cells, which start behind them
 unfoldable pub recordBy : Source → List ℕ → ℕ → Record
 recordBy ownLayouts xs start =
     record { serial = getD xs 0 0; layout = 0; shape = shaped (getD xs 1 0) (getD xs 2 0) (getD xs 3 0); start = start; count = getD xs 4 0 }
 recordBy (listedLayouts ls) xs start =
     record { serial = getD xs 0 0; layout = getD xs 1 0; shape = listedShape (getD ls (getD xs 1 0) unlisted); start = start; count = getD xs 2 0 }
 
--- 02: "a layout number out of the list counting as 7"
+-- 02, §3; RULES 9: "a layout number out of the list counting as 7"
 unfoldable pub outOfList : Source → List ℕ → Bool
 outOfList ownLayouts xs = false
 outOfList (listedLayouts ls) xs = leb (length ls) (getD xs 1 0)
 
--- 01: "a number cut off, over nine bytes or not shortest, or fewer than n bytes after n"
+-- 01, Dumps; RULES 8, 9: "a number cut off, over nine bytes or not shortest, or fewer than n bytes after n"
 unfoldable pub broken : Source → List ℕ → Numbers → Bool
 broken source bytes cut = true
 broken source bytes (numbers xs start) = cond (outOfList source xs) true (ltb (length bytes - start) (getD xs (headLength source) 0))
 
--- the record of numbers that are not broken
+-- RULES 8: the record of numbers that are not broken
 unfoldable pub found : Source → Numbers → Step
 found source cut = ended
 found source (numbers xs start) = taken (recordBy source xs start)
 
--- before the end of a dump: the record, or 7, which carries "also the offset of the record's first byte"
+-- 01, Refusal numbers; RULES 8: before the end of a dump: the record, or 7, which carries "also the offset of the record's first byte"
 abbrev pub recordAt : Source → List ℕ → ℕ → Numbers → Step
 recordAt source bytes at ns = cond (broken source bytes ns) (stopped 7 (at ∷ [])) (found source ns)
 
--- "A dump is records up to its end": the step at a place
+-- 01, Dumps; RULES 8: "A dump is records up to its end": the step at a place
 unfoldable pub stepIn : Source → List ℕ → ℕ → Step
 stepIn source bytes at = cond (ltb at (length bytes)) (recordAt source bytes at (readNumbers (suc (headLength source)) bytes at)) ended
 
--- a dump at its front: where its records begin and how they say their layouts, or the refusal of the whole dump and what that carries
+-- RULES 9: a dump at its front: where its records begin and how they say their layouts, or the refusal of the whole dump and what that carries
 pub data Opening : Type 0 where
   barred : ℕ → List ℕ → Opening
   entered : Source → ℕ → Opening
 
--- 02: "a broken layout list, or a count above 64, as 7 at offset 0"
+-- 02, §3; RULES 9: "a broken layout list, or a count above 64, as 7 at offset 0"
 unfoldable pub behindList : Layouts → Opening
 behindList brokenList = barred 7 (0 ∷ [])
 behindList (layouts ls start) = entered (listedLayouts ls) start
 
--- the records of an old dump begin at once, those of a new one behind its layout list
+-- RULES 8, 9: the records of an old dump begin at once, those of a new one behind its layout list
 unfoldable pub openingAs : Kind → List ℕ → Opening
 openingAs Old bytes = entered ownLayouts 0
 openingAs New bytes = behindList (layoutList bytes)
 
--- the table's rows for the walk, 8 before 7: "A dump: 0 to 65,536 bytes"
+-- 01, Refusal numbers; RULES 12: the table's rows for the walk, 8 before 7: "A dump: 0 to 65,536 bytes"
 unfoldable pub opening : Kind → List ℕ → Opening
 opening kind bytes = cond (ltb 65536 (length bytes)) (barred 8 []) (openingAs kind bytes)
 
--- how many layouts a dump lists
+-- RULES 9: how many layouts a dump lists
 abbrev pub listedMany : Source → ℕ
 listedMany ownLayouts = 0
 listedMany (listedLayouts ls) = length ls
 
--- docs/DECISIONS.md, 66: the reply to opening a dump: its layouts and where its records begin
+-- docs/DECISIONS.md, 66; RULES 9, 13: the reply to opening a dump: its layouts and where its records begin
 unfoldable pub openedBy : Opening → List ℕ
 openedBy (barred k carried) = k ∷ carried
 openedBy (entered source start) = 0 ∷ listedMany source ∷ start ∷ []
@@ -139,42 +141,42 @@ openedBy (entered source start) = 0 ∷ listedMany source ∷ start ∷ []
 unfoldable pub openReply : Kind → List ℕ → List ℕ
 openReply kind bytes = openedBy (opening kind bytes)
 
--- one step of the walk of a dump that is opened
+-- RULES 8, 9: one step of the walk of a dump that is opened
 unfoldable pub stepOn : Opening → List ℕ → ℕ → Step
 stepOn (barred k carried) bytes at = stopped k carried
 stepOn (entered source start) bytes at = stepIn source bytes at
 
--- one step of the walk
+-- RULES 8, 9: one step of the walk
 unfoldable pub step : Kind → List ℕ → ℕ → Step
 step kind bytes at = stepOn (opening kind bytes) bytes at
 
--- "the record's cell bytes as a part of the dump"
+-- 01, Dumps; RULES 8: "the record's cell bytes as a part of the dump"
 unfoldable pub cellsOf : List ℕ → Record → List ℕ
 cellsOf bytes r = take (r .count) (drop (r .start) bytes)
 
--- the numbers of a shape up to its first range, which is the only one but in form 2
+-- RULES 9, 13: the numbers of a shape up to its first range, which is the only one but in form 2
 abbrev pub shapeNumbers : Shape → List ℕ
 shapeNumbers s = s .form ∷ s .m ∷ s .t ∷ getD (s .v) 0 0 ∷ []
 
--- the numbers of a record that the walk gives; in an old dump the layout's number and the form are 0
+-- RULES 13: the numbers of a record that the walk gives; in an old dump the layout's number and the form are 0
 unfoldable pub recordNumbers : Record → List ℕ
 recordNumbers r = r .serial ∷ r .layout ∷ (shapeNumbers (r .shape) ++ (r .start ∷ r .count ∷ []))
 
--- "then reads them; refusals 1 to 4 belong to that record and the walk goes on"
+-- 01, Dumps; RULES 8: "then reads them; refusals 1 to 4 belong to that record and the walk goes on"
 unfoldable pub outcome : List ℕ → Record → List ℕ
 outcome bytes r = readReply (r .shape) (cellsOf bytes r)
 
--- the walk's step at a place, as a reply
+-- RULES 13: the walk's step at a place, as a reply
 unfoldable pub stepValues : List ℕ → Step → List ℕ
 stepValues bytes (taken r) = 0 ∷ (recordNumbers r ++ outcome bytes r)
 stepValues bytes ended = 0 ∷ []
 stepValues bytes (stopped k carried) = k ∷ carried
 
--- the same of a place of the dump
+-- RULES 13: the same of a place of the dump
 unfoldable pub stepReply : Kind → List ℕ → ℕ → List ℕ
 stepReply kind bytes at = stepValues bytes (step kind bytes at)
 
--- all steps from a place on: "the walk goes on", "Refusal 7 ends it"
+-- 01, Dumps; RULES 8: all steps from a place on: "the walk goes on", "Refusal 7 ends it"
 unfoldable pub walkFrom : ℕ → Kind → List ℕ → ℕ → List Step
 walkFrom zero kind bytes at = []
 walkFrom (suc fuel) kind bytes at = elim (step kind bytes at) [
@@ -183,49 +185,50 @@ walkFrom (suc fuel) kind bytes at = elim (step kind bytes at) [
   | stopped k carried ↦ stopped k carried ∷ []
 ]
 
--- "up to its end": the steps from a place on; a record takes a byte at least, so that the fuel is enough
+-- 01, Dumps; RULES 8: "up to its end": the steps from a place on; a record takes a byte at least, so that the fuel is enough
 abbrev pub onward : Kind → List ℕ → ℕ → List Step
 onward kind bytes at = walkFrom (suc (length bytes - at)) kind bytes at
 
--- where the records of a dump begin, and a refusal of the whole dump is met
+-- RULES 8, 9: where the records of a dump begin, and a refusal of the whole dump is met
 unfoldable pub startOf : Opening → ℕ
 startOf (barred k carried) = 0
 startOf (entered source start) = start
 
--- 01: "A dump is records up to its end"; 02: "a second call walks it as before": all steps
+-- 01, Dumps; 02, §3; RULES 8, 9: "A dump is records up to its end"; "a second call walks it as before": all steps
 unfoldable pub walk : Kind → List ℕ → List Step
 walk kind bytes = onward kind bytes (startOf (opening kind bytes))
 
--- docs/DECISIONS.md, 35: what a row of a walk has before the reply to reading: of an old dump serial, m, t, v, the start and count of the cells, of a new
--- one the layout's number and the form too
+-- docs/DECISIONS.md, 35; RULES 13: what a row of a walk has before the reply to reading: of an old dump serial, m, t, v, the start and count of the cells, of a
+-- new one the layout's number and the form too
 unfoldable pub rowNumbers : Kind → Record → List ℕ
 rowNumbers Old r = r .serial ∷ r .shape .m ∷ r .shape .t ∷ getD (r .shape .v) 0 0 ∷ r .start ∷ r .count ∷ []
 rowNumbers New r = recordNumbers r
 
--- the numbers of a row
+-- RULES 13: the numbers of a row
 abbrev pub rowLength : Kind → ℕ
 rowLength Old = 11
 rowLength New = 13
 
--- the same entry: the walk into lent rows, each with the reply to reading in its five fields
+-- docs/DECISIONS.md, 35; RULES 13: the walk into lent rows, each with the reply to reading in its five fields
 unfoldable pub rowsOf : Kind → List ℕ → List Step → List ℕ
 rowsOf kind bytes [] = []
 rowsOf kind bytes (taken r ∷ steps) = (rowNumbers kind r ++ readFields (outcome bytes r)) ++ rowsOf kind bytes steps
 rowsOf kind bytes (ended ∷ steps) = []
 rowsOf kind bytes (stopped k carried ∷ steps) = []
 
--- the same entry: after so many rows the refusal and its offset, the rows filled, where the next step would start, and 1 where the end was reached
+-- docs/DECISIONS.md, 35; RULES 13: after so many rows the refusal and its offset, the rows filled, where the next step would start, and 1 where the end was
+-- reached
 unfoldable pub closing : ℕ → ℕ → List Step → List ℕ
 closing at rows [] = 0 ∷ 0 ∷ rows ∷ at ∷ 0 ∷ []
 closing at rows (taken r ∷ steps) = closing (r .start + r .count) (suc rows) steps
 closing at rows (ended ∷ steps) = 0 ∷ 0 ∷ rows ∷ at ∷ 1 ∷ []
 closing at rows (stopped k carried ∷ steps) = k ∷ getD carried 0 0 ∷ rows ∷ at ∷ 0 ∷ []
 
--- as many steps as whole rows fit
+-- RULES 8: as many steps as whole rows fit
 abbrev pub rowSteps : Kind → List ℕ → ℕ → List ℕ → List Step
 rowSteps kind bytes at rows = walkFrom (length rows / rowLength kind) kind bytes at
 
--- docs/DECISIONS.md, 23: a dump that is refused as a whole is refused before the first
+-- docs/DECISIONS.md, 23; RULES 13: a dump that is refused as a whole is refused before the first
 unfoldable pub walkOn : Opening → List ℕ → List ℕ
 walkOn (barred k carried) reply = k ∷ getD carried 0 0 ∷ 0 ∷ 0 ∷ 0 ∷ []
 walkOn (entered source start) reply = reply
@@ -233,53 +236,53 @@ walkOn (entered source start) reply = reply
 unfoldable pub walkReply : Kind → List ℕ → ℕ → List ℕ → List ℕ
 walkReply kind bytes at rows = walkOn (opening kind bytes) (closing at 0 (rowSteps kind bytes at rows))
 
--- the same entry: the rows filled, and behind them what stood there
+-- docs/DECISIONS.md, 23; RULES 13: the rows filled, and behind them what stood there
 unfoldable pub walkLeaves : Kind → List ℕ → ℕ → List ℕ → List ℕ
 walkLeaves kind bytes at rows =
     let made = rowsOf kind bytes (rowSteps kind bytes at rows) in
     made ++ drop (length made) rows
 
--- the bytes of a text that "`fieldlist` .. prints"
+-- 01, Dumps, of `fieldlist`; RULES 10: the bytes of a text that "`fieldlist` .. prints"
 unfoldable pub ascii : String → List ℕ
 ascii nothing = []
 ascii (c before text) = code c ∷ ascii text
 
--- "All numbers are decimal": in at most so many digits
+-- 01, Dumps, of `fieldlist`; RULES 10: "All numbers are decimal": in at most so many digits
 unfoldable pub spelled : ℕ → ℕ → List ℕ
 spelled zero x = []
 spelled (suc most) x = cond (ltb x 10) ((48 + x) ∷ []) (spelled most (x / 10) ++ ((48 + x % 10) ∷ []))
 
--- a number below 2^64 takes at most 20
+-- RULES 10: a number below 2^64 takes at most 20
 abbrev pub decimal : ℕ → List ℕ
 decimal x = spelled 20 x
 
--- "one line per record: `serial generation number left`, or `serial refused N`"
+-- 01, Dumps, of `fieldlist`; RULES 10: "one line per record: `serial generation number left`, or `serial refused N`"
 unfoldable pub recordLine : ℕ → List ℕ → List ℕ
 recordLine serial reply =
     decimal serial ++ cond (eqb (getD reply 0 0) 0)
     (ascii " " ++ (decimal (getD reply 1 0) ++ (ascii " " ++ (decimal (getD reply 2 0) ++ (ascii " " ++ (decimal (getD reply 3 0) ++ ascii "\n"))))))
     (ascii " refused " ++ (decimal (getD reply 0 0) ++ ascii "\n"))
 
--- "The last line is `records N`, N counting whole records"
+-- 01, Dumps, of `fieldlist`; RULES 10: "The last line is `records N`, N counting whole records"
 unfoldable pub lastLine : ℕ → List ℕ
 lastLine count = ascii "records " ++ (decimal count ++ ascii "\n")
 
--- "At refusal 7 it prints `stopped 7 at OFFSET`"; "At refusal 8 the only line is `refused 8`"
+-- 01, Dumps, of `fieldlist`; RULES 10: "At refusal 7 it prints `stopped 7 at OFFSET`"; "At refusal 8 the only line is `refused 8`"
 unfoldable pub stopLines : ℕ → ℕ → List ℕ → List ℕ
 stopLines count k [] = ascii "refused " ++ (decimal k ++ ascii "\n")
 stopLines count k (offset ∷ more) = ascii "stopped " ++ (decimal k ++ (ascii " at " ++ (decimal offset ++ (ascii "\n" ++ lastLine count))))
 
--- a line per record and the last lines, after `count` records
+-- RULES 10: a line per record and the last lines, after `count` records
 unfoldable pub lines : List ℕ → ℕ → List Step → List ℕ
 lines bytes count [] = []
 lines bytes count (taken r ∷ steps) = recordLine (r .serial) (outcome bytes r) ++ lines bytes (suc count) steps
 lines bytes count (ended ∷ steps) = lastLine count
 lines bytes count (stopped k carried ∷ steps) = stopLines count k carried
 
--- the same from a place on, after so many records
+-- RULES 10: the same from a place on, after so many records
 abbrev pub textFrom : Kind → List ℕ → ℕ → ℕ → List ℕ
 textFrom kind bytes at count = lines bytes count (onward kind bytes at)
 
--- "`fieldlist` reads standard input and prints": the text of a dump
+-- 01, Dumps, of `fieldlist`; RULES 10: "`fieldlist` reads standard input and prints": the text of a dump
 unfoldable pub listing : Kind → List ℕ → List ℕ
 listing kind bytes = lines bytes 0 (walk kind bytes)

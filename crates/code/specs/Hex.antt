@@ -1,4 +1,4 @@
--- Document 02, §1, "Programming bench files": Intel HEX of bytes, and the bytes of such a text. A text is the numbers of its characters.
+-- Document 02, §1, "Programming bench files" (RULES 11): Intel HEX of bytes, and the bytes of such a text. A text is the numbers of its characters.
 use Prim.Native.Nat.{ℕ, zero, suc, _+_, _*_, _-_, _/_, _%_}
 use mathlib.Core.Bool.{Bool, true, false, cond, not, _&&_}
 use mathlib.Core.List.{List, [], _∷_, _++_}
@@ -46,15 +46,15 @@ endRecord = ascii ":00000001FF\n"
 unfoldable pub hexText : List ℕ → List ℕ
 hexText bytes = dataLines (lineCount (length bytes)) 0 bytes ++ endRecord
 
--- "8 for exporting more than 65,536 bytes; then 9 where the output is short"
+-- 02, §1; RULES 12: "8 for exporting more than 65,536 bytes; then 9 where the output is short"
 unfoldable pub hexExportRefusal : List ℕ → List ℕ → List ℕ
 hexExportRefusal bytes out = refusal ((8 ∷ [], ltb 65536 (length bytes)) ∷ (9 ∷ [], ltb (length out) (length (hexText bytes))) ∷ [])
 
--- 01, of an export: "answers its length"
+-- 01, Refusal numbers, of an export; RULES 13: "answers its length"
 unfoldable pub hexExportReply : List ℕ → List ℕ → List ℕ
 hexExportReply bytes out = answer (hexExportRefusal bytes out) (length (hexText bytes) ∷ [])
 
--- 01, of an export: stored "at the front of the output, leaves later bytes unchanged"
+-- 01, Refusal numbers, of an export; RULES 13: stored "at the front of the output, leaves later bytes unchanged"
 unfoldable pub hexExportLeaves : List ℕ → List ℕ → List ℕ
 hexExportLeaves bytes out = let text = hexText bytes in leaves (hexExportRefusal bytes out) (text ++ drop (length text) out) out
 
@@ -167,15 +167,15 @@ unfoldable pub bytesOf : Import → List ℕ
 bytesOf (faulty k) = []
 bytesOf (gives bytes) = bytes
 
--- 20 to 24 of a line, "then 9 where the output is short"
+-- 02, §1; RULES 12: 20 to 24 of a line, "then 9 where the output is short"
 unfoldable pub importRefusal : Import → List ℕ → List ℕ
 importRefusal (faulty k) out = k
 importRefusal (gives bytes) out = refusal ((9 ∷ [], ltb (length out) (length bytes)) ∷ [])
 
--- the call's answer: the length of what is stored
+-- RULES 13: the call's answer: the length of what is stored
 unfoldable pub hexImportReply : List ℕ → List ℕ → List ℕ
 hexImportReply text out = answer (importRefusal (hexImport text) out) (length (bytesOf (hexImport text)) ∷ [])
 
--- the output afterwards, as after an export
+-- RULES 13: the output afterwards, as after an export
 unfoldable pub hexImportLeaves : List ℕ → List ℕ → List ℕ
 hexImportLeaves text out = let made = bytesOf (hexImport text) in leaves (importRefusal (hexImport text) out) (made ++ drop (length made) out) out

@@ -1,4 +1,4 @@
--- A line of Intel HEX as a program meets it, by its characters. No promise of a call is stated by these.
+-- Document 02, §1 (RULES 11): a line of Intel HEX as a program meets it, by its characters. No promise of a call is stated by these.
 use Prim.Native.Nat.{ℕ, _+_, _*_, _<_}
 use mathlib.Core.Path.{_≡_}
 use mathlib.Core.Bool.{true}

@@ -1,4 +1,4 @@
--- Document 01, "Layout", and Theorem 1 of 003: the conditions on a list of counts, and the least list. Place i of a list is the documents' i + 1.
+-- Document 01, "Layout", and Theorem 1 of 003 (RULES 2): the conditions on a list of counts, and the least list. Place i of a list is the documents' i + 1.
 use Prim.Native.Nat.{ℕ, zero, suc, _-_, _^_, _<_, _≤_}
 use mathlib.Core.Path.{_≡_}
 use mathlib.Core.List.{List, [], _∷_}
@@ -6,7 +6,8 @@ use lib.Dec.{leb}
 use lib.ListN.{length, getD}
 use Rattle.code.specs.Count.{fewer, least}
 
--- conditions a to d on the counts hs = h_1 .. h_t with a range for each generation, as 003 has them; document 01 has t equal ranges and first = 0
+-- 01, Layout; 003, Theorem 1; RULES 2: conditions a to d on the counts hs = h_1 .. h_t with a range for each generation; document 01 has t equal ranges and
+-- first = 0
 pub record Meets (m first : ℕ) (hs vs : List ℕ) : Type 0 where
   pub many : length hs ≡ length vs
   pub a-falls : (i : ℕ) → suc i < length hs → getD hs (suc i) 0 < getD hs i 0
@@ -21,13 +22,13 @@ unfoldable pub room : ℕ → ℕ → ℕ → ℕ → ℕ → ℕ
 room e b first h zero = e ^ h - 1
 room e b first h (suc h′) = fewer b h first (suc (h - suc h′))
 
--- 01: "every count is the least", the last found first; fuel bounds the search for each
+-- 01, Layout; RULES 2: "every count is the least", the last found first; fuel bounds the search for each
 unfoldable pub counts : ℕ → ℕ → ℕ → ℕ → List ℕ → List ℕ
 counts fuel e b first [] = []
 counts fuel e b first (v ∷ vs) =
     let rest = counts fuel e (e - 1) 1 vs in
     least (λ h. leb v (room e b first h (getD rest 0 0))) (suc (getD rest 0 0)) fuel ∷ rest
 
--- 01: "The granted list is the one whose every count is the least among all lists that meet a to d"
+-- 01, Layout; RULES 2: "The granted list is the one whose every count is the least among all lists that meet a to d"
 unfoldable pub grant : ℕ → ℕ → ℕ → List ℕ → List ℕ
 grant g m first vs = counts g (2 ^ m - 1) (2 ^ m - 1) first vs

@@ -1,4 +1,4 @@
--- Document 02, §3, "Layouts said once": the layout list that a new dump begins with. Its numbers are those of the old dump.
+-- Document 02, §3, "Layouts said once", and §7 (RULES 9): the layout list that a new dump begins with. Its numbers are those of the old dump.
 use Prim.Native.Nat.{ℕ, zero, suc}
 use mathlib.Core.Bool.{Bool, cond, not, _&&_}
 use mathlib.Core.List.{List, [], _∷_, _++_}
@@ -9,7 +9,7 @@ use Rattle.code.specs.Shape.{rangesDue, given}
 use Rattle.code.specs.Calls.{filled}
 use Rattle.code.specs.Numerals.{numeralsOf, Numbers, cut, numbers, readNumbers}
 
--- "form, m, t, v of each"; §7: "form, m, t and then t ranges"
+-- 02, §3, §7; RULES 9: "form, m, t, v of each"; "form, m, t and then t ranges"
 pub record Listed : Type 0 where
   pub form : ℕ
   pub m : ℕ
@@ -50,7 +50,7 @@ unfoldable pub ledLayouts : Listed → Layouts → Layouts
 ledLayouts l brokenList = brokenList
 ledLayouts l (layouts ls start) = layouts (l ∷ ls) start
 
--- §7: "in a dump, t outside 2 to 16 here is a broken layout list", where the numbers form, m, t come first
+-- 02, §7; RULES 9: "in a dump, t outside 2 to 16 here is a broken layout list", where the numbers form, m, t come first
 unfoldable pub uncounted : List ℕ → Bool
 uncounted xs = eqb (getD xs 0 0) 2 && not (leb 2 (getD xs 2 0) && leb (getD xs 2 0) 16)
 
@@ -59,7 +59,7 @@ unfoldable pub followed : List ℕ → Numbers → Numbers
 followed xs cut = cut
 followed xs (numbers ys end) = numbers (xs ++ ys) end
 
--- the numbers of a layout: "form, m, t, v"; §7, of form 2: "form, m, t and then t ranges"
+-- 02, §3, §7; RULES 9: the numbers of a layout: "form, m, t, v"; of form 2: "form, m, t and then t ranges"
 unfoldable pub readLayout : List ℕ → ℕ → Numbers
 readLayout bytes at = elim (readNumbers 3 bytes at) [
   | cut ↦ cut

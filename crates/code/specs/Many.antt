@@ -1,4 +1,4 @@
--- Document 02, §5: up to 64 numbers, written in one call into as many fields of one layout that lie end to end.
+-- Document 02, §5 (RULES 6): up to 64 numbers, written in one call into as many fields of one layout that lie end to end.
 use Prim.Native.Nat.{ℕ, _*_}
 use mathlib.Core.Bool.{cond, not}
 use mathlib.Core.List.{List, [], _∷_, _++_, map}
@@ -32,7 +32,7 @@ manyCells s (x ∷ xs) bytes =
     let rest = drop (fieldBytes s) bytes in
     writeLeaves s x field ++ cond (passes (writeRefusal s x field)) (manyCells s xs rest) rest
 
--- "14 for more than 64 numbers, then 1 and 2, then 3 for a buffer that isn't count times the field's bytes, all before any write"
+-- 02, §5; RULES 12: "14 for more than 64 numbers, then 1 and 2, then 3 for a buffer that isn't count times the field's bytes, all before any write"
 unfoldable pub manyRefusal : Shape → List ℕ → List ℕ → List ℕ
 manyRefusal s xs bytes = refusal (
     (14 ∷ [], ltb numbersMost (length xs)) ∷
@@ -50,7 +50,7 @@ unfoldable pub stopReply : List (List ℕ) → List ℕ
 stopReply [] = []
 stopReply (reply ∷ replies) = cond (eqb (getD reply 0 0) 0) (stopReply replies) reply
 
--- the answer: the refusal, whether a field was refused, which one, counted from 0, how many were written, and the generation and the unerased count
+-- RULES 13: the answer: the refusal, whether a field was refused, which one, counted from 0, how many were written, and the generation and the unerased count
 -- that the refusal carries; the generations of the fields written; their turned counts. 0 stands behind these
 unfoldable pub manyNumbers : ℕ → List ℕ → List (List ℕ) → List (List ℕ)
 manyNumbers stopped refused made =
@@ -58,16 +58,16 @@ manyNumbers stopped refused made =
     filled numbersMost (map (λ reply. getD reply 1 0) made) ∷
     filled numbersMost (map (λ reply. getD reply 2 0) made) ∷ []
 
--- "saying which field it was"
+-- 02, §5; RULES 13: "saying which field it was"
 unfoldable pub manyTold : List (List ℕ) → List (List ℕ)
 manyTold replies = manyNumbers (cond (passes (stopReply replies)) 0 1) (stopReply replies) (madeReplies replies)
 
--- the call's answer; refused before any write, it names no field
+-- RULES 13: the call's answer; refused before any write, it names no field
 unfoldable pub manyReply : Shape → List ℕ → List ℕ → List (List ℕ)
 manyReply s xs bytes =
     let refused = manyRefusal s xs bytes in
     cond (passes refused) (manyTold (manyReplies s xs bytes)) (manyNumbers 0 refused [])
 
--- the cells afterwards
+-- RULES 6, 12: the cells afterwards
 unfoldable pub manyLeaves : Shape → List ℕ → List ℕ → List ℕ
 manyLeaves s xs bytes = leaves (manyRefusal s xs bytes) (manyCells s xs bytes) bytes

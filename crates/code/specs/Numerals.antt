@@ -1,4 +1,4 @@
--- Document 01, "Dumps": numbers in groups of seven bits, written and read.
+-- Document 01, "Dumps" (RULES 7): numbers in groups of seven bits, written and read.
 use Prim.Native.Nat.{ℕ, zero, suc, _+_, _*_, _-_, _/_, _%_}
 use mathlib.Core.Bool.{cond}
 use mathlib.Core.List.{List, [], _∷_, _++_}

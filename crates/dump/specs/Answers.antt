@@ -1,4 +1,4 @@
--- The answers of the dump calls as replies: 0 and the values, or the refusal's number and what it carries.
+-- Documents 01, "Dumps", and 02, §3 (RULES 13): the answers of the dump calls as replies: 0 and the values, or the refusal's number and what it carries.
 use Prim.Native.Nat.{ℕ, _≤_}
 use mathlib.Core.Path.{_≡_}
 use mathlib.Core.List.{List, [], _∷_, _++_}
@@ -20,11 +20,11 @@ use Rattle.dump.specs.declared.Step.the-variants.{Record, End, Stop}
 use Rattle.dump.specs.declared.Walked.{Walked}
 use Rattle.dump.specs.declared.Record as Declared
 
--- "A dump: 0 to 65,536 bytes"
+-- 01, Numbers that bound everything; RULES 12: "A dump: 0 to 65,536 bytes"
 abbrev pub dumpMost : ℕ
 dumpMost = 65536
 
--- "A refusal carries its number only (7 also the offset of the record's first byte)"
+-- 01, Refusal numbers; RULES 12: "A refusal carries its number only (7 also the offset of the record's first byte)"
 abbrev pub haltNumber : Halt → ℕ
 haltNumber (Malformed offset) = 7
 haltNumber Oversize = 8
@@ -36,12 +36,12 @@ haltCarries Oversize = []
 abbrev pub haltOf : Halt → List ℕ
 haltOf halt = haltNumber halt ∷ haltCarries halt
 
--- a dump at its front: the layouts that are kept are the first of the places
+-- RULES 9: a dump at its front: the layouts that are kept are the first of the places
 abbrev pub openedOf : Kind → List ℕ → List ℕ → Opened → Code.Opening
 openedOf kind bytes places (Records start count) = Code.entered (sourceOf kind bytes (take count places)) start
 openedOf kind bytes places (Barred halt) = Code.barred (haltNumber halt) (haltCarries halt)
 
--- at most so many layouts are kept
+-- RULES 9: at most so many layouts are kept
 abbrev pub Few : ℕ → Opened → Type 0
 Few most (Records start count) = count ≤ most
 Few most (Barred halt) = Unit {0}
@@ -51,7 +51,7 @@ pub record Opens (kind : Kind) (bytes places : List ℕ) (r : Opened) : Type 0 w
   pub few : Few 64 r
   pub long : length places ≡ 64
 
--- the records of a dump can be walked, its layouts being kept by their places
+-- RULES 8, 9: the records of a dump can be walked, its layouts being kept by their places
 pub record Ready (kind : Kind) (bytes places : List ℕ) : Type 0 where
   pub start : ℕ
   pub opens : Code.opening kind bytes ≡ Code.entered (sourceOf kind bytes places) start
@@ -61,7 +61,7 @@ abbrev pub openedReply : Opened → List ℕ
 openedReply (Records start count) = 0 ∷ count ∷ start ∷ []
 openedReply (Barred halt) = haltOf halt
 
--- what stands at a place, as a step of the walk
+-- RULES 8, 9: what stands at a place, as a step of the walk
 abbrev pub locatedOf : Code.Source → Located → Code.Step
 locatedOf source (RecordThere h) = Code.taken (headRecord source h)
 locatedOf source EndThere = Code.ended

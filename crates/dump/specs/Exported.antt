@@ -1,4 +1,4 @@
--- What an export comes to behind its first tests.
+-- Document 01, "Refusal numbers, tested in this order" (RULES 12): what an export comes to behind its first tests.
 use Prim.Native.Nat.{ℕ, _^_, _<_}
 use mathlib.Core.Path.{_≡_}
 use mathlib.Core.Bool.{false}

@@ -1,4 +1,4 @@
--- The layout that a walk keeps.
+-- The layout that a walk keeps (no rule).
 use Prim.Native.Nat.{ℕ}
 use mathlib.Core.Path.{_≡_}
 use mathlib.Core.List.{List}

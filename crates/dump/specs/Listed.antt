@@ -1,4 +1,4 @@
--- A listed layout in the fields of its struct.
+-- Document 02, §7 (RULES 13): a listed layout in the fields of its struct.
 use Prim.Native.Nat.{ℕ}
 use mathlib.Core.List.{List, _∷_}
 use Rattle.dump.specs.declared.listed.ListedShape.{ListedShape}

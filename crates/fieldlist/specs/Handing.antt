@@ -1,4 +1,4 @@
--- A text handed out piece by piece.
+-- A text handed out piece by piece (no rule).
 use Prim.Native.Nat.{ℕ}
 use mathlib.Core.Path.{_≡_}
 use mathlib.Core.List.{List, _++_}

@@ -1,4 +1,4 @@
--- The numbers of a C struct in the order of its fields: the reply, with 0 in the fields that it lacks.
+-- Documents 01 and 02 (RULES 13): the numbers of a C struct in the order of its fields: the reply, with 0 in the fields that it lacks.
 use Prim.Native.Nat.{ℕ, _+_}
 use mathlib.Core.Bool.{cond}
 use mathlib.Core.List.{List, [], _∷_, _++_}
@@ -38,8 +38,8 @@ stepFields r =
 unfoldable pub cellsEnd : List ℕ → ℕ
 cellsEnd reply = getD reply 7 0 + getD reply 8 0
 
--- the seventeen fields of the reply to a step of a new dump: a record's are 0, 0, 1, its serial, its layout's number, form, m, t, its first v, where its cells start and how
--- many they are, where they end, and its reading in five
+-- the seventeen fields of the reply to a step of a new dump: a record's are 0, 0, 1, its serial, its layout's number, form, m, t, its first v, where its cells
+-- start and how many they are, where they end, and its reading in five
 unfoldable pub newFoundFields : List ℕ → List ℕ
 newFoundFields reply =
     cond (ltb 2 (length reply)) (0 ∷ 0 ∷ 1 ∷ (take 8 (drop 1 reply) ++ (cellsEnd reply ∷ readFields (drop 9 reply)))) (filled 17 reply)

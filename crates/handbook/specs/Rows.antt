@@ -1,4 +1,4 @@
--- The text of a row of the triangle.
+-- Document 02, §4 (RULES 2): the text of a row of the triangle.
 use Prim.Native.Nat.{ℕ, zero, suc}
 use mathlib.Core.List.{List, [], _∷_, _++_}
 use Rattle.code.specs.Count.{choose}

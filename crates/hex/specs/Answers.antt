@@ -1,4 +1,4 @@
--- What the steps of an import tell of a line and of a text.
+-- Document 02, §1 (RULES 11): what the steps of an import tell of a line and of a text.
 use Prim.Native.Nat.{ℕ, _+_, _*_, _≤_, _<_}
 use mathlib.Core.Path.{_≡_}
 use mathlib.Core.Bool.{true, false}

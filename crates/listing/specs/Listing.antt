@@ -1,4 +1,4 @@
--- The text of a listing, told piece by piece.
+-- Document 01, "Dumps", of `fieldlist` (RULES 10): the text of a listing, told piece by piece.
 use Prim.Native.Nat.{ℕ, _+_, _<_, _≤_}
 use mathlib.Core.Path.{_≡_}
 use mathlib.Core.Bool.{true, false, cond}

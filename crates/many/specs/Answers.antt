@@ -1,4 +1,4 @@
--- The answer of a write of many numbers as a reply.
+-- Document 02, §5 (RULES 13): the answer of a write of many numbers as a reply.
 use Prim.Native.Nat.{ℕ}
 use mathlib.Core.List.{List, [], _∷_}
 use lib.ListN.{take, drop}

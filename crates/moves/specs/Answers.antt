@@ -1,4 +1,4 @@
--- The answer of a move as a reply: 0 and the length, or the refusal's number and what it carries.
+-- Document 02, §3 (RULES 13): the answer of a move as a reply: 0 and the length, or the refusal's number and what it carries.
 use Prim.Native.Nat.{ℕ}
 use mathlib.Core.List.{List, [], _∷_}
 use Rattle.moves.specs.declared.Moved.{Moved}

@@ -1,4 +1,4 @@
--- Layouts that a move to new keeps by their numbers: form, m, t, v of each, one after the other.
+-- Document 02, §3 (RULES 9): layouts that a move to new keeps by their numbers: form, m, t, v of each, one after the other.
 use Prim.Native.Nat.{ℕ, zero, suc, _+_, _*_, _≤_, _<_}
 use mathlib.Core.Path.{_≡_}
 use mathlib.Core.List.{List, [], _∷_, _++_}

@@ -1,4 +1,4 @@
--- What the passes of a move over the records of a dump tell.
+-- Document 02, §3 (RULES 9): what the passes of a move over the records of a dump tell.
 use Prim.Native.Nat.{ℕ, zero, suc, _*_, _≤_}
 use mathlib.Core.Path.{_≡_}
 use mathlib.Core.List.{List, [], _∷_}
@@ -19,12 +19,12 @@ use Rattle.moves.specs.declared.to_new.Collected.the-variants.{Whole as 
 use Rattle.moves.specs.declared.to_old.Measured.{Measured}
 use Rattle.moves.specs.declared.to_old.Measured.the-variants.{Whole, Stopped}
 
--- a refusal by its number, 0 where there is none
+-- RULES 12: a refusal by its number, 0 where there is none
 abbrev pub refusedBy : ℕ → List ℕ
 refusedBy zero = []
 refusedBy (suc k) = suc k ∷ []
 
--- "8 again where the moved dump would pass 65,536 bytes, 9 last", by the moved dump's length and the output's
+-- 02, §3; RULES 12: "8 again where the moved dump would pass 65,536 bytes, 9 last", by the moved dump's length and the output's
 unfoldable pub lengthRefusal : ℕ → ℕ → List ℕ
 lengthRefusal long room = refusal ((8 ∷ [], ltb 65536 long) ∷ (9 ∷ [], ltb room long) ∷ [])
 
@@ -40,7 +40,7 @@ entriesIn kind bytes = entriesOf bytes (walk kind bytes)
 abbrev pub saidBy : Source → List Listed → List Entry → List ℕ
 saidBy source ls es = recordsOf source (numbered ls es)
 
--- 01: "serial, m, t, v": the numbers before n of a record of an old dump
+-- 01, Dumps; RULES 8: "serial, m, t, v": the numbers before n of a record of an old dump
 abbrev pub oldHead : Record → List ℕ
 oldHead r = r .serial ∷ r .shape .m ∷ r .shape .t ∷ getD (r .shape .v) 0 0 ∷ []
 
@@ -66,6 +66,6 @@ abbrev pub Gathers : List ℕ → List ℕ → Collected → Type 0
 Gathers bytes kept (Gathered total count) = Collects bytes kept total count
 Gathers bytes kept (Halting halt) = stopOf (walk Old bytes) ≡ haltOf halt
 
--- 02: "records of serial, layout number from 0": the bytes of an old dump's records with the numbers of their layouts in a list
+-- 02, §3; RULES 9: "records of serial, layout number from 0": the bytes of an old dump's records with the numbers of their layouts in a list
 abbrev pub numberedBy : List Listed → List ℕ → List ℕ
 numberedBy ls bytes = saidBy (listedLayouts ls) ls (entriesIn Old bytes)

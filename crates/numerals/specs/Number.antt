@@ -1,4 +1,4 @@
--- What reading numbers of a dump answers.
+-- Document 01, "Dumps" (RULES 7): what reading numbers of a dump answers.
 use Prim.Native.Nat.{ℕ, _+_}
 use mathlib.Core.List.{List}
 use Rattle.code.specs.Numerals.{Numeral, malformed, numeral}

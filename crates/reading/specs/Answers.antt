@@ -1,4 +1,4 @@
--- The answers of read as replies, and what the functions between them cite.
+-- Document 01, "Reading", and document 02, §2 and §6 (RULES 5): the answers of read as replies, and what the functions between them cite.
 use Prim.Native.Nat.{ℕ, suc, _*_, _-_, _^_, _<_, _≤_}
 use mathlib.Core.Path.{_≡_}
 use mathlib.Core.Bool.{true, cond}
@@ -20,7 +20,7 @@ use Rattle.reading.specs.declared.ReadFields.{ReadFields}
 use Rattle.reading.specs.declared.Found.{Found}
 use Rattle.reading.specs.declared.Found.the-variants.{Blank, Number, Miscounted, Beyond}
 
--- a refusal as its number and what it carries
+-- RULES 12, 13: a refusal as its number and what it carries
 abbrev pub refusalOf : Refusal → List ℕ
 refusalOf (Plain k) = k ∷ []
 refusalOf (MiscountedRefusal generation unerased) = 15 ∷ generation ∷ unerased ∷ []
@@ -32,7 +32,7 @@ refusalFieldsOf c = c .number ∷ c .generation ∷ c .unerased ∷ []
 abbrev pub readFieldsOf : ReadFields → List ℕ
 readFieldsOf r = r .refusal ∷ r .generation ∷ r .number ∷ r .left ∷ r .unerased ∷ []
 
--- an enum answer as document 01's numbers: 0 and the values, or the refusal
+-- 01, Where each language form belongs; RULES 13: an enum answer as numbers: 0 and the values, or the refusal
 abbrev pub readingOf : Reading → List ℕ
 readingOf (Read generation number left) = 0 ∷ generation ∷ number ∷ left ∷ []
 readingOf (Refused k) = refusalOf k
@@ -58,7 +58,7 @@ judgedIn s gs i = Field.judged (2 ^ s .m - 1) (firstOf s) (countsOf s) (rangesOf
 abbrev pub readIn : Shape → List ℕ → Field.Reading
 readIn s gs = Field.read (2 ^ s .m - 1) (firstOf s) (countsOf s) (rangesOf s) gs
 
--- cells that refusal 3 is not for
+-- RULES 3: cells that refusal 3 is not for
 abbrev pub SoundCells : Shape → List ℕ → Type 0
 SoundCells s bs = sound (orderOf s) (s .m) (widthOf s) bs ≡ true
 

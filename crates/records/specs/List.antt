@@ -1,4 +1,4 @@
--- What reading a layout list answers.
+-- Document 02, §3 and §7 (RULES 9): what reading a layout list answers.
 use Prim.Native.Nat.{ℕ, _≤_, _<_}
 use mathlib.Core.Path.{_≡_}
 use mathlib.Core.Bool.{true, false}

@@ -1,4 +1,4 @@
--- Layouts by their places in a dump.
+-- Document 02, §3 (RULES 9): layouts by their places in a dump.
 use Prim.Native.Nat.{ℕ}
 use mathlib.Core.List.{List, [], _∷_}
 use Rattle.code.specs.declared.Kind.{Kind}

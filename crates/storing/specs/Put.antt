@@ -1,4 +1,4 @@
--- Bytes stored one after the other into a lent output.
+-- Bytes stored one after the other into a lent output (no rule).
 use mathlib.Core.Path.{_≡_}
 use mathlib.Core.List.{List, _++_}
 use Prim.Native.Nat.{ℕ, _+_}

@@ -1,4 +1,4 @@
--- Text stored into a lent output that has room for the longest text of its kind.
+-- Document 01, "Dumps", of `fieldlist` (RULES 10): text stored into a lent output that has room for the longest text of its kind.
 use mathlib.Core.List.{List}
 use Prim.Native.Nat.{ℕ, _+_, _≤_}
 use Rattle.storing.specs.Put.{Put}

@@ -1,4 +1,4 @@
--- Marks: words that have a 1 at the lowest bit of some of their groups, and no other bit.
+-- Document 01, "Cells in bytes" (RULES 3): marks, which are words that have a 1 at the lowest bit of some of their groups, and no other bit.
 use Prim.Native.Nat.{ℕ, zero, suc, _+_, _*_, _-_, _^_, _/_, _%_, _≤_, _<_}
 use mathlib.Core.Path.{_≡_}
 use mathlib.Core.Bool.{Bool, cond, not}
@@ -163,7 +163,7 @@ pub record Leftover (m w o right left : ℕ) : Type 0 where
   pub small : Below 256 (picked (labelIn right o) m (wordGroups m) left)
   pub some : zeros (picked (groupIn m w) m (wordGroups m) left) ≡ 0
 
--- the written places of xs in two arrays of bytes
+-- RULES 4: the written places of xs in two arrays of bytes
 pub record Gathered (xs at less : List ℕ) (k : ℕ) : Type 0 where
   pub chosen : Chosen xs at less k
   pub long : length at ≡ patternMost
@@ -179,7 +179,7 @@ pub record ZeroMarked (m n : ℕ) (words os : List ℕ) : Type 0 where
   pub tidy : Tidy m n words
   pub marked : (j : ℕ) → j < n → getD os j 0 ≡ wordMarks m zeroGroup (getD words j 0)
 
--- the first n words after erasing
+-- RULES 6: the first n words after erasing
 pub record Erased (m n spare : ℕ) (before after os : List ℕ) : Type 0 where
   pub ready : ZeroMarked m n after os
   pub made : frontGroups m n after ≡ erase (2 ^ m - 1) spare (frontGroups m n before)
@@ -191,32 +191,32 @@ pub record Blanks (m w o : ℕ) : Type 0 where
   pub tidy : w < 2 ^ (8 * wordBytes m)
   pub marked : o ≡ wordMarks m zeroGroup w
 
--- the word with values laid into its zero groups
+-- RULES 6: the word with values laid into its zero groups
 pub record WordLaid (m w : ℕ) (ps : List ℕ) (r : ℕ) : Type 0 where
   pub tidy : r < 2 ^ (8 * wordBytes m)
   pub made : groupsIn m r ≡ lay (groupsIn m w) ps
 
--- the first n words with a pattern laid into their zero groups
+-- RULES 6: the first n words with a pattern laid into their zero groups
 pub record Layered (m n : ℕ) (ps before after : List ℕ) : Type 0 where
   pub long : length after ≡ 16
   pub tidy : Tidy m n after
   pub made : frontGroups m n after ≡ lay (frontGroups m n before) ps
 
--- the labels and the values less 1 from `at` to k are those of the pattern rs, of so many places
+-- RULES 4: the labels and the values less 1 from `at` to k are those of the pattern rs, of so many places
 pub record Remaining (m : ℕ) (at less : List ℕ) (k i next : ℕ) (rs : List ℕ) : Type 0 where
   pub long : length rs ≡ next
   pub places : drop i (take k at) ≡ labels rs
   pub marks : drop i (take k less) ≡ values rs
   pub small : Upto (2 ^ m - 1) rs
 
--- the pattern of s places that k labels and values less 1 give, and that of the last of them
+-- RULES 4: the pattern of s places that k labels and values less 1 give, and that of the last of them
 abbrev pub patternOf : ℕ → List ℕ → List ℕ → ℕ → List ℕ
 patternOf s at less k = scattered s (take k at) (take k less)
 
 abbrev pub restOf : List ℕ → List ℕ → ℕ → ℕ → ℕ → List ℕ
 restOf at less k i next = scattered next (drop i (take k at)) (drop i (take k less))
 
--- the first places of that rest are laid into the word w, and those before `right` are left
+-- RULES 4, 6: the first places of that rest are laid into the word w, and those before `right` are left
 pub record Scattered (m w right : ℕ) (at less : List ℕ) (k i next r j : ℕ) : Type 0 where
   pub within : j ≤ k
   pub here : WordLaid m w (take (blanksIn m w) (restOf at less k i next)) r

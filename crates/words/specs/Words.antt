@@ -1,4 +1,5 @@
--- Groups of m bits in words. A word holds n groups, the leftmost in its highest bits; its lowest bit is the last bit of its last group.
+-- Document 01, "Cells in bytes" (RULES 3): groups of m bits in words. A word holds n groups, the leftmost in its highest bits; its lowest bit is the last bit
+-- of its last group.
 use Prim.Native.Nat.{ℕ, zero, suc, _+_, _*_, _^_, _/_, _%_, _<_}
 use mathlib.Core.Bool.{cond}
 use mathlib.Core.List.{List, [], _∷_, _++_}

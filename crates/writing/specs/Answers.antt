@@ -1,4 +1,4 @@
--- The answers of write as replies, and what the functions between them cite.
+-- Document 01, "Writing", and document 02, §7 (RULES 6): the answers of write as replies, and what the functions between them cite.
 use Prim.Native.Nat.{ℕ, _-_, _^_, _≤_}
 use mathlib.Core.Path.{_≡_}
 use mathlib.Core.Bool.{cond}
@@ -18,7 +18,7 @@ use Rattle.writing.specs.declared.Writing.the-variants.{Written, Refused
 use Rattle.writing.specs.declared.Aim.{Aim}
 use Rattle.writing.specs.declared.Aim.the-variants.{At, Refused as NotAt}
 
--- an enum answer as document 01's numbers: 0 and the values, or the refusal
+-- 01, Where each language form belongs; RULES 13: an enum answer as numbers: 0 and the values, or the refusal
 abbrev pub writingOf : Writing → List ℕ
 writingOf (Written generation turned) = 0 ∷ generation ∷ turned ∷ []
 writingOf (Refused k) = refusalOf k
