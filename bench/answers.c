@@ -12,8 +12,7 @@
 
 enum {
     MOST_BYTES = 262144, MOST_OUTPUT = 262144, MOST_NUMBERS = 128, OUTPUT_FILL = 0xa5, ROWS_AT_ONCE = 7,
-    MOST_RANGES = 64,    /* of a call, so that more can be asked for than a shape may have */
-    SHAPE_RANGES = 16,   /* that a shape has room for */
+    MOST_RANGES = 64,   /* of a call, so that more can be asked for than a shape may have */
 };
 
 struct lent {
@@ -84,7 +83,7 @@ static struct gorvlime_shape get_shape(void)
     shape.count = get_count(MOST_RANGES);
     for (size_t i = 0; i < shape.count; i++) {
         uint64_t range = get_number();
-        if (i < SHAPE_RANGES)
+        if (i < GORVLIME_RANGES_MOST)
             shape.v[i] = range;
     }
     return shape;
@@ -278,10 +277,10 @@ static int is_listed(const uint64_t *row, const struct gorvlime_listed *listed)
 {
     const struct gorvlime_shape *s = &listed->shape;
     uint64_t same[] = {s->form, s->m, s->t, s->v[0]}, behind = 0;
-    for (size_t i = s->count; i < SHAPE_RANGES; i++)
+    for (size_t i = s->count; i < GORVLIME_RANGES_MOST; i++)
         behind |= s->v[i];
     return listed->refusal == 0 && memcmp(row + 2, same, sizeof same) == 0 && behind == 0
-        && s->count == (s->form == 2 ? s->t : 1) && s->count <= SHAPE_RANGES;
+        && s->count == (s->form == 2 ? s->t : 1) && s->count <= GORVLIME_RANGES_MOST;
 }
 
 /* As for an old dump, with all ranges of the layout where a row has the first. */

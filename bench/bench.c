@@ -82,7 +82,7 @@ static void run_writes(const struct calls *c, const struct task *t)
 {
     const struct sample *s = t->sample;
     for (unsigned i = 0; i < CHAINS; i++) {
-        uint8_t cells[MOST_CELLS] = {0};
+        uint8_t cells[GORVLIME_CELLS_MOST] = {0};
         for (unsigned j = 0; j < t->generation; j++)
             fold(c->write(s->shape, cells, s->cells, s->numbers[i][j]).turned);
         fold(cells[i]);
@@ -117,7 +117,7 @@ static void run_refused_writes(const struct calls *c, const struct task *t)
 
 static void run_export(const struct calls *c, const struct task *t)
 {
-    uint8_t record[MOST_RECORD];
+    uint8_t record[GORVLIME_RECORD_MOST];
     const struct sample *s = t->sample;
     struct gorvlime_shape f = s->shape;
     for (unsigned i = 0; i < CHAINS; i++) {

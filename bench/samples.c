@@ -3,7 +3,7 @@
 #include <stdlib.h>
 #include <string.h>
 
-#define RANGE ((uint64_t)1 << 56)
+#define RANGE GORVLIME_RANGE_MOST
 
 struct sample drives = {.shape = {.m = 2, .t = 10, .count = 1, .v = {RANGE}}, .cells = 35};
 struct sample widest_2 = {.shape = {.m = 2, .t = 16, .count = 1, .v = {RANGE}}, .cells = 49};
@@ -35,7 +35,7 @@ static uint64_t draw(void)
 static void write_chains(struct sample *s)
 {
     for (unsigned i = 0; i < CHAINS; i++) {
-        uint8_t cells[MOST_CELLS] = {0};
+        uint8_t cells[GORVLIME_CELLS_MOST] = {0};
         for (unsigned j = 0; j < s->shape.t; j++) {
             uint64_t range = s->shape.v[s->shape.count == 1 ? 0 : j];
             s->numbers[i][j] = 1 + draw() % (range - 1);
@@ -78,7 +78,7 @@ static void make_moved(struct dump *moved, const struct dump *old)
 /* The dumps, and the text of the old one. */
 static void make_dumps(void)
 {
-    uint8_t record[MOST_RECORD];
+    uint8_t record[GORVLIME_RECORD_MOST];
     struct gorvlime_shape f = drives.shape;
     const uint8_t *cells = drives.written[0][0];
     size_t length = plain_export(0, f.m, f.t, f.v[0], cells, drives.cells, record, sizeof record).length;

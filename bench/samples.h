@@ -5,21 +5,21 @@
 #include "plain.h"
 
 enum {
-    MOST_GENERATIONS = 16, MOST_CELLS = 64, MOST_RECORD = 85, CHAINS = 8,
-    DUMP = 65536,
+    CHAINS = 8,
+    DUMP = GORVLIME_DUMP_MOST,
     /* So many records have a serial of 3 bytes, and the others one of 2, which fills a dump to its last byte. */
     OLD_RECORDS = 1337, OLD_LONG_SERIALS = 23, NEW_RECORDS = 1680, NEW_LONG_SERIALS = 3,
     /* The first records of the old dump, in half of its bytes. */
     HALF_RECORDS = 668,
-    TEXT = 180236,   /* characters of 65,536 bytes in HEX */
+    TEXT = GORVLIME_HEX_LENGTH(DUMP),
 };
 
 /* A field, and chains of writes from blank cells to its last generation. */
 struct sample {
     struct gorvlime_shape shape;
     size_t cells;
-    uint64_t numbers[CHAINS][MOST_GENERATIONS];
-    uint8_t written[CHAINS][MOST_GENERATIONS][MOST_CELLS];   /* after each write of a chain */
+    uint64_t numbers[CHAINS][GORVLIME_GENERATIONS_MOST];
+    uint8_t written[CHAINS][GORVLIME_GENERATIONS_MOST][GORVLIME_CELLS_MOST];   /* after each write of a chain */
 };
 
 /* The drives' field, with t 16 at every m, in form 1, with a shorter range at each write, and a field of four numbers. */

@@ -1,10 +1,10 @@
 /*
  * A file of cells to Intel HEX, as the bench that programs new boards loads it, and back.
  *
- *     rt staticlib gorvlime
+ *     make archive
  *     tools/cc examples/bench.c target/staticlib/libgorvlime.a -o target/bench-file
- *     tools/run-c target/bench-file out <cells >cells.hex
- *     tools/run-c target/bench-file in <cells.hex >cells
+ *     tools/run-c target/bench-file out <samples/drives.dump >target/drives.hex
+ *     tools/run-c target/bench-file in <target/drives.hex >target/drives.dump
  */
 #include "gorvlime.h"
 
@@ -13,9 +13,9 @@
 #include <string.h>
 
 /* One byte more than an address can be given to, so that the call sees what is too much and refuses it. */
-static uint8_t cells[65536 + 1];
+static uint8_t cells[GORVLIME_HEX_BYTES_MOST + 1];
 
-/* An exported text has at most 180,236 characters. Others are longer: here is room for lines of one byte with CR LF. */
+/* More than GORVLIME_HEX_MOST, since texts of others are longer: here is room for lines of one byte with CR LF. */
 static uint8_t text[1 << 20];
 
 static const char *words_for(uint64_t refusal)

@@ -2,7 +2,7 @@
  * Counters in write-once cells, as board firmware keeps them: size the cells, write one or many, read back, export, make a
  * new dump, and tell why a field is unreadable.
  *
- *     rt staticlib gorvlime
+ *     make archive
  *     tools/cc examples/board.c target/staticlib/libgorvlime.a -o target/board
  *     tools/run-c target/board
  */
@@ -36,7 +36,7 @@ static struct drive old_drive = {.name = "old drive", .shape = {.m = 2, .t = 10,
 /* Is the block of cells as large as the field? Ask once, when the board is designed or starts. */
 static int is_right_size(const struct drive *d)
 {
-    struct gorvlime_counts counts = gorvlime_layout(d->shape, 256);
+    struct gorvlime_counts counts = gorvlime_layout(d->shape, GORVLIME_GROUPS_MOST);
     if (counts.refusal != GORVLIME_ACCEPTED)
         return 0;
     uint64_t wits = d->shape.m * counts.h[0];
@@ -106,7 +106,7 @@ static void write_quarter(const uint64_t *numbers, size_t count)
 /* A record says whose field it is, m, t, v and the cells. It has no place for the form, and is read as form 0. */
 static void export_counter(const struct drive *d, uint64_t serial)
 {
-    uint8_t record[85];   /* no record is longer */
+    uint8_t record[GORVLIME_RECORD_MOST];
     struct gorvlime_stored exported = gorvlime_export(serial, d->shape.m, d->shape.t, d->shape.v[0], d->cells,
                                                         sizeof d->cells, record, sizeof record);
     if (exported.refusal != GORVLIME_ACCEPTED) {
@@ -120,7 +120,8 @@ static void export_counter(const struct drive *d, uint64_t serial)
 /* A new dump says each layout once and holds fields of every form. */
 static struct {
     size_t count;
-    uint8_t bytes[1 + 2 * 12 + 2 * 75];   /* the count of layouts, two of one range and two records; none is longer */
+    /* The count of layouts, two of them with one range, and two records. */
+    uint8_t bytes[1 + 2 * GORVLIME_LAYOUT_ONE_RANGE_MOST + 2 * GORVLIME_RECORD_NEW_MOST];
 } dump;
 
 #define REST_OF_DUMP dump.bytes + dump.count, sizeof dump.bytes - dump.count

@@ -1,7 +1,7 @@
 //! The numbers of a dump, as a collector written in Rust takes them: it walks the dump on standard input and prints a line
 //! for each field, `serial generation number left` or `serial refused N`.
 //!
-//!     rt staticlib gorvlime
+//!     make archive
 //!     tools/rustc examples/collector.rs -o target/collector
 //!     tools/run-c target/collector <samples/drives.dump
 //!

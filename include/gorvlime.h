@@ -12,7 +12,7 @@
  *                                             the i-th number written is below the i-th range
  *
  * Ask gorvlime_layout once how large the field is, keep that many bytes of cells, all zeros at first, and hand them to
- * gorvlime_write and gorvlime_read; gorvlime_write_many writes up to 64 fields of one shape at once. gorvlime_export makes
+ * gorvlime_write and gorvlime_read; gorvlime_write_many writes many fields of one shape at once. gorvlime_export makes
  * a record of a field, records one after the other are a dump, and gorvlime_step and gorvlime_walk list a dump. A new dump
  * says each layout once, in front, and holds fields of every form: gorvlime_export_layout and gorvlime_export_record make
  * it, gorvlime_open_new, gorvlime_listed_shape, gorvlime_step_new and gorvlime_walk_new list it, gorvlime_move_to_new and
@@ -28,10 +28,17 @@
  * - Lend no null pointer, not even with a count of 0, and no output, nor cells to be written, that overlap what else is
  *   lent. Not a byte more is read or stored than is lent.
  * - There is no state, no heap and no lock: calls may run at once on different memory.
- * - The archive libgorvlime.a is for 64-bit x86 and its System V calling convention. Of other code it needs at most
- *   `memcpy` and `memset`.
+ * - The archive libgorvlime.a is for 64-bit x86 and its System V calling convention. Of other code it needs `memcpy`, for
+ *   gorvlime_move_to_new `memset`, and nothing else; layout, read and write need no other code at all. It is position
+ *   independent, and all its data is read-only. Code and data together have some 50 kilobytes linked whole, and
+ *   some 31 kilobytes in a program that calls layout, read and write alone and is linked with -Wl,--gc-sections.
  * - As that convention allows, a call uses the 128 bytes below the stack pointer and the SSE registers. An interrupt handler
  *   that interrupts a call, or makes one, has to leave both as it found them.
+ *
+ * To link it, where it was built (`make archive`) and where it was installed (`make install`):
+ *
+ *     gcc -Iinclude board.c target/staticlib/libgorvlime.a -o board
+ *     gcc board.c $(pkg-config --cflags --libs gorvlime) -o board
  */
 #ifndef GORVLIME_H
 #define GORVLIME_H
@@ -43,6 +50,34 @@
 extern "C" {
 #endif
 
+/* The version of this header and of the library beside it. Where callers have to change, the first number goes up. */
+#define GORVLIME_VERSION_MAJOR 1
+#define GORVLIME_VERSION_MINOR 0
+#define GORVLIME_VERSION_PATCH 0
+#define GORVLIME_VERSION "1.0.0"
+
+/*
+ * The most that there can be, for arrays that have room for whatever comes. Each of them is reached, so less is too little.
+ * GORVLIME_MANY, GORVLIME_ROW and GORVLIME_ROW_NEW stand further down, beside their calls.
+ */
+#define GORVLIME_SERIAL_MOST (UINT64_MAX >> 1)        /* a serial: 2^63 - 1 */
+#define GORVLIME_RANGE_MOST (UINT64_C(1) << 56)       /* a range */
+#define GORVLIME_GENERATIONS_MOST 16                  /* generations of a field, and counts of a layout */
+#define GORVLIME_RANGES_MOST 16                       /* ranges of a shape: one for each generation */
+#define GORVLIME_GROUPS_MOST 256                      /* groups that a layout may be offered */
+#define GORVLIME_CELLS_MOST 64                        /* bytes of a field's cells */
+#define GORVLIME_RECORD_MOST 85                       /* bytes of an exported record: 21 of numbers, and the cells */
+#define GORVLIME_RECORD_NEW_MOST 75                   /* of one for a new dump: 11 of numbers, and the cells */
+#define GORVLIME_LAYOUT_MOST 147                      /* of a layout for the list of a new dump, with sixteen ranges */
+#define GORVLIME_LAYOUT_ONE_RANGE_MOST 12             /* of one with one range, as all of forms 0 and 1 are */
+#define GORVLIME_LAYOUTS_MOST 64                      /* layouts in the list of a new dump */
+#define GORVLIME_DUMP_MOST 65536                      /* bytes of a dump, old or new */
+#define GORVLIME_HEX_BYTES_MOST 65536                 /* bytes that go into a HEX text or come out of one */
+#define GORVLIME_HEX_MOST 180236                      /* characters of an exported HEX text */
+
+/* Characters of the HEX text of so many bytes. The argument is evaluated twice. */
+#define GORVLIME_HEX_LENGTH(bytes) (12 * (((bytes) + 15) / 16) + 2 * (bytes) + 12)
+
 /*
  * Why a call was refused. The tests are made in the order of this list, and the first that holds is the answer. In form 2
  * the writes test 6 last, behind 5, since the generation tells which range counts. A HEX text is tested line by line: 23, 20,
@@ -52,11 +87,11 @@ extern "C" {
  */
 enum gorvlime_refusal {
     GORVLIME_ACCEPTED = 0,      /* from                  when                                               */
-    GORVLIME_NUMBERS = 14,      /* write many            more than 64 numbers                               */
-    GORVLIME_SERIAL = 10,       /* exports of a record   the serial is above 2^63 - 1                       */
+    GORVLIME_NUMBERS = 14,      /* write many            more than GORVLIME_MANY numbers                    */
+    GORVLIME_SERIAL = 10,       /* exports of a record   the serial is above GORVLIME_SERIAL_MOST           */
     GORVLIME_BOUNDS = 1,        /* all with m, t, v      the form, m, t, a range or g is outside its        */
                                 /*                       bounds, another count of ranges than the form has, */
-                                /*                       or the layout number is above 63                   */
+                                /*                       or a layout number from GORVLIME_LAYOUTS_MOST on   */
                                 /* listed shape          no layout of the list has the number               */
     GORVLIME_NO_ROOM = 2,       /* all with m, t, v      the field needs more than g groups                 */
     GORVLIME_CELLS = 3,         /* read, writes, exports another count of bytes, or a 1 behind the last wit */
@@ -70,12 +105,12 @@ enum gorvlime_refusal {
     GORVLIME_BEYOND = 16,       /* read, writes          the number in the cells is not below the range of  */
                                 /*                       its generation                                     */
     GORVLIME_SPENT = 5,         /* writes                all t generations are written                      */
-    GORVLIME_TOO_LONG = 8,      /* all with a dump       the dump has more than 65,536 bytes                */
-                                /* HEX export            more than 65,536 bytes                             */
+    GORVLIME_TOO_LONG = 8,      /* all with a dump       the dump has more than GORVLIME_DUMP_MOST bytes    */
+                                /* HEX export            more than GORVLIME_HEX_BYTES_MOST bytes            */
     GORVLIME_MALFORMED = 7,     /* all with a dump       no whole record stands at the offset, or no whole  */
                                 /*                       layout list in front of a new dump                 */
     GORVLIME_FORM = 12,         /* move to old           a listed form but 0: the old dump cannot hold it   */
-    GORVLIME_LAYOUTS = 13,      /* move to new           the records have more than 64 layouts              */
+    GORVLIME_LAYOUTS = 13,      /* move to new           more layouts than GORVLIME_LAYOUTS_MOST            */
     GORVLIME_NO_END = 23,       /* HEX import            the text is over and no end line was in it         */
     GORVLIME_LINE = 20,         /* HEX import            no line of the right shape, or a type 01 with data */
                                 /*                       or an address                                      */
@@ -102,20 +137,21 @@ enum gorvlime_refusal {
  */
 struct gorvlime_shape {
     uint64_t form, m, t, count;
-    uint64_t v[16];
+    uint64_t v[GORVLIME_RANGES_MOST];
 };
 
 /*
  * How large a field is.
  *
- * Takes the shape and g, the groups that there is room for, 0 to 256. Answers the counts h_1 > h_2 > .. > h_t in h[0] to
- * h[t - 1], zeros behind: generation i uses h_i groups, and no smaller counts would do. The field takes m * h[0] wits, which
- * is (m * h[0] + 7) / 8 bytes of cells, never more than 64. Only the layout asks about g: the other calls work with g = 256,
- * where every field has room. Between forms 0 and 1 only h[0] differs, and only where v is just what form 0 has patterns
- * for. In form 2 each h_i is the least for its own range and those behind it.
+ * Takes the shape and g, the groups that there is room for, 0 to GORVLIME_GROUPS_MOST. Answers the counts
+ * h_1 > h_2 > .. > h_t in h[0] to h[t - 1], zeros behind: generation i uses h_i groups, and no smaller counts would do. The
+ * field takes m * h[0] wits, which is (m * h[0] + 7) / 8 bytes of cells, never more than GORVLIME_CELLS_MOST. Only the layout
+ * asks about g: the other calls work with g = GORVLIME_GROUPS_MOST, where every field has room. Between forms 0 and 1 only
+ * h[0] differs, and only where v is just what form 0 has patterns for. In form 2 each h_i is the least for its own range and
+ * those behind it.
  * Refusals: 1, 2.
  */
-struct gorvlime_counts { uint64_t refusal; uint64_t h[16]; };
+struct gorvlime_counts { uint64_t refusal; uint64_t h[GORVLIME_GENERATIONS_MOST]; };
 
 struct gorvlime_counts gorvlime_layout(struct gorvlime_shape shape, uint64_t g);
 
@@ -195,10 +231,10 @@ struct gorvlime_many gorvlime_write_many(struct gorvlime_shape shape, uint8_t *c
 /*
  * A record of a field, for a dump.
  *
- * Takes a serial of your choice (0 to 2^63 - 1), the field's m, t, v and cells, and an output. Stores the record at the front
- * of the output, leaves the bytes behind it as they are, and answers the record's length, at most 85 bytes. Cells that have
- * no reading are exported too. A record has no place for the form and is read as form 0: a field of another form goes into a
- * new dump.
+ * Takes a serial of your choice (0 to GORVLIME_SERIAL_MOST), the field's m, t, v and cells, and an output. Stores the record
+ * at the front of the output, leaves the bytes behind it as they are, and answers the record's length, at most
+ * GORVLIME_RECORD_MOST bytes. Cells that have no reading are exported too. A record has no place for the form and is read as
+ * form 0: a field of another form goes into a new dump.
  * A record is serial, m, t, v, the count of cell bytes, then these bytes. Each number is groups of seven bits, lowest first,
  * the top bit set on all but the last.
  * Refusals: 10, 1, 2, 3, 9.
@@ -211,8 +247,8 @@ struct gorvlime_stored gorvlime_export(uint64_t serial, uint64_t m, uint64_t t, 
 /*
  * One record of a dump.
  *
- * Takes a dump of at most 65,536 bytes and the offset of a record in it: 0, then the `next` of the step before. An offset at
- * or past the dump's end is the end.
+ * Takes a dump of at most GORVLIME_DUMP_MOST bytes and the offset of a record in it: 0, then the `next` of the step before.
+ * An offset at or past the dump's end is the end.
  *
  *     a record    refusal 0, records 1; its serial, m, t, v; its cells are the dump's bytes start to start + length - 1;
  *                 next, where the next step starts; then what gorvlime_read says of the cells in form 0: `refused`, which
@@ -258,23 +294,24 @@ struct gorvlime_walked gorvlime_walk(const uint8_t *dump, size_t dump_count, siz
 /*
  * New dumps.
  *
- * A new dump is the count of its layouts, 0 to 64, then form, m, t, v of each, with t ranges for v in form 2, then records
- * of serial, layout number, the count of cell bytes and these bytes; all numbers are groups of seven bits as in an old dump.
- * The layout number is the place in the list, from 0. Nothing in the bytes tells the two kinds of dump apart: who stores a
- * dump notes its kind.
+ * A new dump is the count of its layouts, 0 to GORVLIME_LAYOUTS_MOST, then form, m, t, v of each, with t ranges for v in
+ * form 2, then records of serial, layout number, the count of cell bytes and these bytes; all numbers are groups of seven
+ * bits as in an old dump. The layout number is the place in the list, from 0. Nothing in the bytes tells the two kinds of
+ * dump apart: who stores a dump notes its kind.
  *
- * A list whose count is above 64, in which a number is malformed, or in which a form 2 has t outside 2 to 16, so that no one
- * can tell how many ranges follow, is refused with 7 at offset 0. Any other listed layout that is out of bounds, or of a form
- * that there is not, which has one range, is whole all the same: each record that uses it is refused with 1 of its own. A
- * record whose layout number is not below the count is malformed.
+ * A list whose count is above GORVLIME_LAYOUTS_MOST, in which a number is malformed, or in which a form 2 has t outside 2 to
+ * 16, so that no one can tell how many ranges follow, is refused with 7 at offset 0. Any other listed layout that is out of
+ * bounds, or of a form that there is not, which has one range, is whole all the same: each record that uses it is refused
+ * with 1 of its own. A record whose layout number is not below the count is malformed.
  */
 
 /*
  * One layout for the list of a new dump.
  *
  * Takes a shape and an output, stores form, m, t and the ranges given at the front of the output, leaves the bytes behind
- * them as they are, and answers how many they are: at most 12 with one range, and 147 with sixteen. The count of layouts,
- * in front of the first one, is one byte that the board writes itself.
+ * them as they are, and answers how many they are: at most GORVLIME_LAYOUT_ONE_RANGE_MOST with one range, and
+ * GORVLIME_LAYOUT_MOST with sixteen. The count of layouts, in front of the first one, is one byte that the board writes
+ * itself.
  * Refusals: 1, 2, 9.
  */
 struct gorvlime_stored gorvlime_export_layout(struct gorvlime_shape shape, uint8_t *out, size_t out_count);
@@ -282,10 +319,11 @@ struct gorvlime_stored gorvlime_export_layout(struct gorvlime_shape shape, uint8
 /*
  * A record of a field, for a new dump.
  *
- * Takes a serial of your choice (0 to 2^63 - 1), the number of the field's layout in the list (0 to 63), the field's shape,
- * which is that layout, its cells and an output. Stores the record at the front of the output, leaves the bytes behind it
- * as they are, and answers its length, at most 75 bytes. The list is not lent: that the shape is the listed one is up to
- * you. Cells that have no reading, blank ones of forms 1 and 2 too, are exported as any others.
+ * Takes a serial of your choice (0 to GORVLIME_SERIAL_MOST), the number of the field's layout in the list (0 to
+ * GORVLIME_LAYOUTS_MOST - 1), the field's shape, which is that layout, its cells and an output. Stores the record at the
+ * front of the output, leaves the bytes behind it as they are, and answers its length, at most GORVLIME_RECORD_NEW_MOST
+ * bytes. The list is not lent: that the shape is the listed one is up to you. Cells that have no reading, blank ones of forms
+ * 1 and 2 too, are exported as any others.
  * Refusals: 10, 1, 2, 3, 9.
  */
 struct gorvlime_stored gorvlime_export_record(uint64_t serial, uint64_t layout, struct gorvlime_shape shape,
@@ -316,9 +354,9 @@ struct gorvlime_listed gorvlime_listed_shape(const uint8_t *dump, size_t dump_co
 /*
  * One record of a new dump.
  *
- * Takes a new dump of at most 65,536 bytes and the offset of a record in it: the `first` of gorvlime_open_new, then the
- * `next` of the step before. A record is read wherever the offset points, inside the list too; at or past the dump's end
- * is the end.
+ * Takes a new dump of at most GORVLIME_DUMP_MOST bytes and the offset of a record in it: the `first` of gorvlime_open_new,
+ * then the `next` of the step before. A record is read wherever the offset points, inside the list too; at or past the
+ * dump's end is the end.
  *
  *     a record    refusal 0, records 1; its serial, the number of its layout and the listed form, m, t and v, which is the
  *                 first range, and the only one but in form 2; its cells are the dump's bytes start to start + length - 1;
@@ -356,9 +394,9 @@ struct gorvlime_walked gorvlime_walk_new(const uint8_t *dump, size_t dump_count,
  * Takes an old dump and an output. Stores the new dump at the front of the output, leaves the bytes behind it as they are,
  * and answers its length. The layouts are of form 0, in the order of their first use. What the cells say and whether m, t, v
  * are in bounds does not matter: every record moves. The new dump is at most 129 bytes longer, and shorter where layouts
- * repeat often; 65,536 bytes of output are always enough.
+ * repeat often; GORVLIME_DUMP_MOST bytes of output are always enough.
  * Moved back, it is the old dump again, byte for byte.
- * Refusals: 8, 7, 13, 8 for a new dump of more than 65,536 bytes, 9.
+ * Refusals: 8, 7, 13, 8 for a new dump of more than GORVLIME_DUMP_MOST bytes, 9.
  */
 struct gorvlime_moved { uint64_t refusal, offset, length; };
 
@@ -369,16 +407,16 @@ struct gorvlime_moved gorvlime_move_to_new(const uint8_t *dump, size_t dump_coun
  *
  * The same the other way. Every listed layout has to be of form 0, used or not. The list itself is not kept: moved to new
  * again, the dump is the same where its layouts are all used, different and in the order of their first use.
- * Refusals: 8, 7, 12, 8 for an old dump of more than 65,536 bytes, 9.
+ * Refusals: 8, 7, 12, 8 for an old dump of more than GORVLIME_DUMP_MOST bytes, 9.
  */
 struct gorvlime_moved gorvlime_move_to_old(const uint8_t *dump, size_t dump_count, uint8_t *out, size_t out_count);
 
 /*
  * Bytes as an Intel HEX text.
  *
- * Takes at most 65,536 bytes, of cells or any others, and an output. Stores the text at the front of the output, leaves
- * the bytes behind it as they are, and answers the text's length: n bytes make 12 * ((n + 15) / 16) + 2 * n + 12
- * characters, at most 180,236, and no 0 behind them.
+ * Takes at most GORVLIME_HEX_BYTES_MOST bytes, of cells or any others, and an output. Stores the text at the front of the
+ * output, leaves the bytes behind it as they are, and answers the text's length: n bytes make GORVLIME_HEX_LENGTH(n)
+ * characters, at most GORVLIME_HEX_MOST, and no 0 behind them.
  * The text is a data line for each 16 bytes, the last one for what is left, at addresses from 0, and the end line
  * :00000001FF. Its digits are upper case and each line ends in a line feed.
  * Refusals: 8, 9.
@@ -389,7 +427,7 @@ struct gorvlime_stored gorvlime_hex_export(const uint8_t *bytes, size_t bytes_co
  * The bytes of an Intel HEX text.
  *
  * Takes a text of any length and an output. Stores the bytes at the front of the output, leaves what is behind them as it
- * is, and answers how many they are: at most 65,536, and fewer than text_count / 2.
+ * is, and answers how many they are: at most GORVLIME_HEX_BYTES_MOST, and fewer than text_count / 2.
  * A line is a colon, the count of its data bytes (0 to 255), an address, a type, the data and a sum, in hex digits of
  * either case: four for the address, two for each other byte. With the sum, all bytes of the line add up to 0 modulo 256.
  * Each line, the last one too, ends in a line feed, with or without a carriage return before it. Data lines are of type

@@ -9,8 +9,6 @@
 #include <inttypes.h>
 #include <string.h>
 
-enum { MOST_RANGES = 16 };
-
 /* The number is refused and nothing is turned. */
 static void check_refused(struct gorvlime_shape shape, const struct lent *cells, uint64_t number, uint64_t refusal)
 {
@@ -39,7 +37,7 @@ static void check_limits(struct gorvlime_shape shape)
 /* The first number of each range, the last one, and some in between. */
 static void check_writes(struct gorvlime_shape shape)
 {
-    uint64_t last[MOST_RANGES], between[MOST_RANGES];
+    uint64_t last[GORVLIME_RANGES_MOST], between[GORVLIME_RANGES_MOST];
     for (unsigned i = 0; i < shape.t; i++) {
         last[i] = shape.v[i] - 1;
         between[i] = (i + 1) * 0x9e3779b97f4a7c15 % shape.v[i];
@@ -69,7 +67,7 @@ static void check_unequal(uint64_t m, uint64_t t)
 /* Every run of numbers. */
 static void check_all_numbers(struct gorvlime_shape shape)
 {
-    uint64_t numbers[MOST_RANGES] = {0};
+    uint64_t numbers[GORVLIME_RANGES_MOST] = {0};
     uint64_t runs = 1;
     for (unsigned i = 0; i < shape.t; i++)
         runs *= shape.v[i];

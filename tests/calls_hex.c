@@ -6,7 +6,7 @@
 #include <string.h>
 
 /* A text of one byte a line, with CR LF, is the longest that has data on each line. */
-enum { MOST_BYTES = 65536, MOST_TEXT = 180236, LONG_TEXT = 15 * MOST_BYTES + 13 };
+enum { MOST_BYTES = GORVLIME_HEX_BYTES_MOST, MOST_TEXT = GORVLIME_HEX_MOST, LONG_TEXT = 15 * MOST_BYTES + 13 };
 
 #define END ":00000001FF\n"
 
@@ -190,7 +190,7 @@ static void check_there_and_back(size_t count)
     fill(text, length);
     fill(back, count);
     calling("HEX export of %zu bytes", count);
-    same("characters", length, 12 * ((count + 15) / 16) + 2 * count + 12);
+    same("characters", length, GORVLIME_HEX_LENGTH(count));
     check_answer(CALL(hex_export)(bytes, count, text, length - 1), 9, 0);
     stay(text, length);
     check_answer(CALL(hex_export)(bytes, count, text, length), 0, length);

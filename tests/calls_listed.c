@@ -6,8 +6,6 @@
 #include <inttypes.h>
 #include <string.h>
 
-enum { MOST_LAYOUTS = 64, MOST_RANGES = 16, LONGEST_LAYOUT = 147 };
-
 #define FALLING RANGES(2, 3, 20, 4, 2)
 #define LISTED "02 02 03 14 04 02"   /* the same in a list */
 
@@ -45,22 +43,6 @@ static void check_layouts(void)
     }
 }
 
-/* A layout is no longer than the header says. */
-static void check_longest(void)
-{
-    struct gorvlime_shape widest = {.form = 2, .m = 4, .t = MOST_RANGES, .count = MOST_RANGES};
-    uint8_t out[LONGEST_LAYOUT + 1];
-    memset(out, UNTOUCHED, sizeof out);
-    for (unsigned i = 0; i < MOST_RANGES; i++)
-        widest.v[i] = RANGE;
-    calling("export of the longest layout");
-    same("refusal without room", CALL(export_layout)(widest, out, LONGEST_LAYOUT - 1).refusal, 9);
-    same("a byte of the output", out[0], UNTOUCHED);
-    same("length", CALL(export_layout)(widest, out, sizeof out).length, LONGEST_LAYOUT);
-    same("its last byte", out[LONGEST_LAYOUT - 1], 1);
-    same("the byte behind it", out[LONGEST_LAYOUT], UNTOUCHED);
-}
-
 static const struct {
     uint64_t serial, layout;
     struct gorvlime_shape shape;
@@ -75,7 +57,7 @@ static const struct {
     {8, 63, FALLING, "00", 4, 0, 4, "08 3F 01 00"},
     {8, 63, FALLING, "FF", 4, 0, 4, "08 3F 01 FF"},
     /* The order of the tests: 10, 1, 3, 9. */
-    {MOST_SERIAL + 1, 64, RANGES(2, 3, 20, 4, 1), "", 0, 10, 0, ""},
+    {GORVLIME_SERIAL_MOST + 1, 64, RANGES(2, 3, 20, 4, 1), "", 0, 10, 0, ""},
     {7, 64, FALLING, "0A", 100, 1, 0, ""},
     {7, 0, RANGES(2, 3, 20, 4, 1), "", 0, 1, 0, ""},
     {7, 0, ONE_RANGE(2, 2, 3, 20), "0A", 100, 1, 0, ""},
@@ -106,7 +88,7 @@ static void same_listed(struct gorvlime_listed got, struct gorvlime_listed expec
     same("m", got.shape.m, expected.shape.m);
     same("t", got.shape.t, expected.shape.t);
     same("count", got.shape.count, expected.shape.count);
-    for (unsigned i = 0; i < MOST_RANGES; i++)
+    for (unsigned i = 0; i < GORVLIME_RANGES_MOST; i++)
         same("a range", got.shape.v[i], expected.shape.v[i]);
 }
 
@@ -126,7 +108,7 @@ static const struct {
      {RANGES(3, 16, 2, 3, 4, 5, 6, 7, 8, 9, 10, 11, 12, 13, 14, 15, 16, 17)}},
     /* Out of bounds is not broken, but for t in form 2. */
     {"01 02 05 03 14 04 02", 1, 7, {RANGES(5, 3, 20, 4, 2)}},
-    {"01 02 00 03 00 01 FF FF FF FF FF FF FF FF 7F", 1, 15, {RANGES(0, 3, 0, 1, MOST_SERIAL)}},
+    {"01 02 00 03 00 01 FF FF FF FF FF FF FF FF 7F", 1, 15, {RANGES(0, 3, 0, 1, GORVLIME_SERIAL_MOST)}},
     {"01 00 02 01 14", 1, 5, {ONE_RANGE(0, 2, 1, 20)}},
     {"01 01 02 00 14", 1, 5, {ONE_RANGE(1, 2, 0, 20)}},
     {"01 00 02 11 14", 1, 5, {ONE_RANGE(0, 2, 17, 20)}},
@@ -302,39 +284,40 @@ static void check_moves_to_old(void)
 /* As many layouts as a list holds, each of sixteen ranges of nine bytes, and a record of the last one. */
 static void check_long_list(void)
 {
-    static uint8_t dump[MOST_DUMP + 1];
-    struct gorvlime_shape shape = {.form = 2, .m = 4, .t = MOST_RANGES, .count = MOST_RANGES};
+    static uint8_t dump[GORVLIME_DUMP_MOST + 1];
+    struct gorvlime_shape shape = {.form = 2, .m = 4, .t = GORVLIME_RANGES_MOST, .count = GORVLIME_RANGES_MOST};
     uint64_t rows[GORVLIME_ROW_NEW];
     size_t count = 1;
-    dump[0] = MOST_LAYOUTS;
-    for (unsigned i = 0; i < MOST_LAYOUTS; i++) {
-        for (unsigned j = 0; j < MOST_RANGES; j++)
+    dump[0] = GORVLIME_LAYOUTS_MOST;
+    for (unsigned i = 0; i < GORVLIME_LAYOUTS_MOST; i++) {
+        for (unsigned j = 0; j < GORVLIME_RANGES_MOST; j++)
             shape.v[j] = RANGE - i * j;
-        count += CALL(export_layout)(shape, dump + count, MOST_DUMP - count).length;
+        count += CALL(export_layout)(shape, dump + count, GORVLIME_DUMP_MOST - count).length;
     }
     calling("list of 64 layouts of form 2");
     same("first", CALL(open_new)(dump, count).first, count);
-    same_listed(CALL(listed_shape)(dump, count, MOST_LAYOUTS - 1), (struct gorvlime_listed){.shape = shape});
-    same_listed(CALL(listed_shape)(dump, count, MOST_LAYOUTS), (struct gorvlime_listed){.refusal = 1});
+    same_listed(CALL(listed_shape)(dump, count, GORVLIME_LAYOUTS_MOST - 1), (struct gorvlime_listed){.shape = shape});
+    same_listed(CALL(listed_shape)(dump, count, GORVLIME_LAYOUTS_MOST), (struct gorvlime_listed){.refusal = 1});
     same_listed(CALL(listed_shape)(dump, count - 1, 0), (struct gorvlime_listed){.refusal = 7});
-    memcpy(dump + count, (uint8_t[]){9, MOST_LAYOUTS - 1, 64}, 3);
+    memcpy(dump + count, (uint8_t[]){9, GORVLIME_LAYOUTS_MOST - 1, 64}, 3);
     dump[count + 3] = 1;
     same_walk(CALL(walk_new)(dump, count + 67, count, rows, GORVLIME_ROW_NEW),
               (struct gorvlime_walked){.rows = 1, .next = count + 67});
     same("refused", rows[8], 0);
     same("v", rows[5], RANGE);
-    same_listed(CALL(listed_shape)(dump, MOST_DUMP, MOST_LAYOUTS - 1), (struct gorvlime_listed){.shape = shape});
-    same_listed(CALL(listed_shape)(dump, MOST_DUMP + 1, 0), (struct gorvlime_listed){.refusal = 8});
-    same_listed(CALL(listed_shape)(dump, MOST_DUMP + 1, MOST_LAYOUTS), (struct gorvlime_listed){.refusal = 8});
-    dump[0] = MOST_LAYOUTS + 1;
-    same_listed(CALL(listed_shape)(dump, MOST_DUMP, 0), (struct gorvlime_listed){.refusal = 7});
-    same_listed(CALL(listed_shape)(dump, MOST_DUMP + 1, 0), (struct gorvlime_listed){.refusal = 8});
+    same_listed(CALL(listed_shape)(dump, GORVLIME_DUMP_MOST, GORVLIME_LAYOUTS_MOST - 1),
+                (struct gorvlime_listed){.shape = shape});
+    same_listed(CALL(listed_shape)(dump, GORVLIME_DUMP_MOST + 1, 0), (struct gorvlime_listed){.refusal = 8});
+    same_listed(CALL(listed_shape)(dump, GORVLIME_DUMP_MOST + 1, GORVLIME_LAYOUTS_MOST),
+                (struct gorvlime_listed){.refusal = 8});
+    dump[0] = GORVLIME_LAYOUTS_MOST + 1;
+    same_listed(CALL(listed_shape)(dump, GORVLIME_DUMP_MOST, 0), (struct gorvlime_listed){.refusal = 7});
+    same_listed(CALL(listed_shape)(dump, GORVLIME_DUMP_MOST + 1, 0), (struct gorvlime_listed){.refusal = 8});
 }
 
 void check_listed_ranges(void)
 {
     check_layouts();
-    check_longest();
     check_records();
     check_lists();
     check_broken_lists();

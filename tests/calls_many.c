@@ -6,7 +6,7 @@
 #include <inttypes.h>
 #include <string.h>
 
-enum { MOST_CELLS = 64, MOST_STRIP = GORVLIME_MANY * MOST_CELLS, TOO_MANY = GORVLIME_MANY + 1 };
+enum { MOST_STRIP = GORVLIME_MANY * GORVLIME_CELLS_MOST, TOO_MANY = GORVLIME_MANY + 1 };
 
 static void same_many(struct gorvlime_many got, struct gorvlime_many expected)
 {

@@ -11,8 +11,6 @@
 #define NEW_DUMP \
     "02 00 02 03 04 00 02 02 14  07 00 01 4F  AC 02 01 02 00 40  08 00 01 00  09 01 02 02 80"
 
-enum { MOST_LAYOUTS = 64 };
-
 /* `out` is the moved dump; the lent output has `room` bytes, and those behind it stay. */
 struct move {
     const char *dump;
@@ -132,7 +130,7 @@ static void check_many_layouts(void)
 {
     enum { ROOM = 1024, MOST = 80 };
     uint8_t *old = take(ROOM), *new = take(ROOM), *back = take(ROOM);
-    for (unsigned count = 1; count <= MOST_LAYOUTS; count++) {
+    for (unsigned count = 1; count <= GORVLIME_LAYOUTS_MOST; count++) {
         size_t length = put_layouts(old, count), moved = 1 + 7 * count;
         calling("move of %u layouts there and back", count);
         same_move(CALL(move_to_new)(old, length, new, moved), (struct gorvlime_moved){0, 0, moved});
@@ -142,7 +140,7 @@ static void check_many_layouts(void)
         same("the same bytes", memcmp(old, back, length), 0);
     }
     memset(new, UNTOUCHED, ROOM);
-    for (unsigned count = MOST_LAYOUTS + 1; count <= MOST; count++) {
+    for (unsigned count = GORVLIME_LAYOUTS_MOST + 1; count <= MOST; count++) {
         size_t length = put_layouts(old, count);
         calling("move of %u layouts", count);
         same_move(CALL(move_to_new)(old, length, new, ROOM), (struct gorvlime_moved){.refusal = 13});
@@ -162,13 +160,13 @@ static void check_long_lists(void)
     enum { ROOM = 1024 };
     uint8_t *dump = take(ROOM);
     uint64_t rows[GORVLIME_ROW_NEW];
-    for (unsigned count = 1; count <= MOST_LAYOUTS + 2; count++) {
+    for (unsigned count = 1; count <= GORVLIME_LAYOUTS_MOST + 2; count++) {
         size_t first = 1 + 4 * count;
         dump[0] = count;
         for (unsigned i = 0; i < count; i++)
             memcpy(dump + 1 + 4 * i, (uint8_t[]){0, 2, 3, 4}, 4);
         memcpy(dump + first, (uint8_t[]){9, count - 1, 1, 0x4f}, 4);
-        int is_broken = count > MOST_LAYOUTS;
+        int is_broken = count > GORVLIME_LAYOUTS_MOST;
         struct gorvlime_opened opened = CALL(open_new)(dump, first + 4);
         calling("list of %u layouts", count);
         same("refusal", opened.refusal, is_broken ? 7 : 0);
@@ -242,21 +240,21 @@ static size_t put_long_record(uint8_t *old, size_t length)
 /* A moved dump of exactly 65,536 bytes, one that would be longer, and one that is too long to begin with. */
 static void check_full_moves(void)
 {
-    enum { ROOM = MOST_DUMP + 8 };
+    enum { ROOM = GORVLIME_DUMP_MOST + 8 };
     uint8_t *old = take(ROOM), *new = take(ROOM), *back = take(ROOM);
-    size_t length = put_long_record(old, MOST_DUMP - 3);
+    size_t length = put_long_record(old, GORVLIME_DUMP_MOST - 3);
     calling("move to new of 65,533 bytes");
-    same_move(CALL(move_to_new)(old, length, new, MOST_DUMP - 1), (struct gorvlime_moved){.refusal = 9});
+    same_move(CALL(move_to_new)(old, length, new, GORVLIME_DUMP_MOST - 1), (struct gorvlime_moved){.refusal = 9});
     same("bytes left as they are", still_untouched(new, 0, ROOM), ROOM);
-    same_move(CALL(move_to_new)(old, length, new, ROOM), (struct gorvlime_moved){.length = MOST_DUMP});
-    same("bytes behind it", still_untouched(new, MOST_DUMP, ROOM), 8);
+    same_move(CALL(move_to_new)(old, length, new, ROOM), (struct gorvlime_moved){.length = GORVLIME_DUMP_MOST});
+    same("bytes behind it", still_untouched(new, GORVLIME_DUMP_MOST, ROOM), 8);
     same("the list and the record", memcmp(new, (uint8_t[]){1, 0, 2, 3, 4, 5, 0, 0xf6, 0xff, 3, 0}, 11), 0);
-    same_move(CALL(move_to_old)(new, MOST_DUMP, back, ROOM), (struct gorvlime_moved){.length = length});
+    same_move(CALL(move_to_old)(new, GORVLIME_DUMP_MOST, back, ROOM), (struct gorvlime_moved){.length = length});
     same("the same bytes", memcmp(old, back, length), 0);
     same("bytes behind them", still_untouched(back, length, ROOM), ROOM - length);
     memset(new, UNTOUCHED, ROOM);
     for (unsigned more = 1; more <= 4; more++) {
-        length = put_long_record(old, MOST_DUMP - 3 + more);
+        length = put_long_record(old, GORVLIME_DUMP_MOST - 3 + more);
         calling("move to new of %zu bytes", length);
         same_move(CALL(move_to_new)(old, length, new, 0), (struct gorvlime_moved){.refusal = 8});
         same_move(CALL(move_to_new)(old, length, new, ROOM), (struct gorvlime_moved){.refusal = 8});
@@ -273,20 +271,21 @@ static void check_full_moves(void)
  */
 static void check_moves_that_grow(void)
 {
-    uint8_t *new = take(MOST_DUMP + 1), *old = take(MOST_DUMP);
-    memset(new, 0, MOST_DUMP + 1);
+    uint8_t *new = take(GORVLIME_DUMP_MOST + 1), *old = take(GORVLIME_DUMP_MOST);
+    memset(new, 0, GORVLIME_DUMP_MOST + 1);
     memcpy(new, (uint8_t[]){1, 0, 2, 3, 4}, 5);
     calling("move to old of three-byte records");
-    same_move(CALL(move_to_old)(new, 5 + 3 * 13107, old, MOST_DUMP), (struct gorvlime_moved){.length = 5 * 13107});
+    same_move(CALL(move_to_old)(new, 5 + 3 * 13107, old, GORVLIME_DUMP_MOST), (struct gorvlime_moved){.length = 5 * 13107});
     same("the last record", memcmp(old + 5 * 13106, (uint8_t[]){0, 2, 3, 4, 0}, 5), 0);
-    same("bytes behind it", still_untouched(old, 5 * 13107, MOST_DUMP), 1);
-    memset(old, UNTOUCHED, MOST_DUMP);
+    same("bytes behind it", still_untouched(old, 5 * 13107, GORVLIME_DUMP_MOST), 1);
+    memset(old, UNTOUCHED, GORVLIME_DUMP_MOST);
     same_move(CALL(move_to_old)(new, 5 + 3 * 13108, old, 0), (struct gorvlime_moved){.refusal = 8});
-    same_move(CALL(move_to_old)(new, 5 + 3 * 21843, old, MOST_DUMP), (struct gorvlime_moved){.refusal = 8});
-    same_move(CALL(move_to_old)(new, MOST_DUMP, old, MOST_DUMP),
+    same_move(CALL(move_to_old)(new, 5 + 3 * 21843, old, GORVLIME_DUMP_MOST), (struct gorvlime_moved){.refusal = 8});
+    same_move(CALL(move_to_old)(new, GORVLIME_DUMP_MOST, old, GORVLIME_DUMP_MOST),
               (struct gorvlime_moved){.refusal = 7, .offset = 5 + 3 * 21843});
-    same_move(CALL(move_to_old)(new, MOST_DUMP + 1, old, MOST_DUMP), (struct gorvlime_moved){.refusal = 8});
-    same("bytes left as they are", still_untouched(old, 0, MOST_DUMP), MOST_DUMP);
+    same_move(CALL(move_to_old)(new, GORVLIME_DUMP_MOST + 1, old, GORVLIME_DUMP_MOST),
+              (struct gorvlime_moved){.refusal = 8});
+    same("bytes left as they are", still_untouched(old, 0, GORVLIME_DUMP_MOST), GORVLIME_DUMP_MOST);
     free(new);
     free(old);
 }
@@ -296,24 +295,25 @@ static void check_full_walk(void)
 {
     enum { RECORDS = 21843, LEFT = 5 + 3 * RECORDS };
     size_t rows_count = (RECORDS + 1) * GORVLIME_ROW_NEW;
-    uint8_t *dump = calloc(MOST_DUMP + 1, 1);
+    uint8_t *dump = calloc(GORVLIME_DUMP_MOST + 1, 1);
     uint64_t *rows = calloc(rows_count, sizeof *rows);
     if (dump == NULL || rows == NULL)
         abort();
     memcpy(dump, (uint8_t[]){1, 0, 2, 3, 4}, 5);
     calling("walk of a new dump of 65,536 bytes");
-    same_walk(CALL(walk_new)(dump, MOST_DUMP, 5, rows, rows_count), (struct gorvlime_walked){7, LEFT, RECORDS, LEFT, 0});
+    same_walk(CALL(walk_new)(dump, GORVLIME_DUMP_MOST, 5, rows, rows_count),
+              (struct gorvlime_walked){7, LEFT, RECORDS, LEFT, 0});
     for (size_t i = 0; i < RECORDS; i++) {
         same("start", rows[i * GORVLIME_ROW_NEW + 6], 5 + 3 * i + 3);
         same("refused", rows[i * GORVLIME_ROW_NEW + 8], 3);
     }
     calling("a new dump of 65,537 bytes");
-    same("refusal of its list", CALL(open_new)(dump, MOST_DUMP + 1).refusal, 8);
-    same("refusal of a step", CALL(step_new)(dump, MOST_DUMP + 1, 5).refusal, 8);
-    same_walk(CALL(walk_new)(dump, MOST_DUMP + 1, 5, rows, rows_count), (struct gorvlime_walked){.refusal = 8});
-    same_walk(CALL(walk_new)(dump, MOST_DUMP + 1, SIZE_MAX, rows, 0), (struct gorvlime_walked){.refusal = 8});
+    same("refusal of its list", CALL(open_new)(dump, GORVLIME_DUMP_MOST + 1).refusal, 8);
+    same("refusal of a step", CALL(step_new)(dump, GORVLIME_DUMP_MOST + 1, 5).refusal, 8);
+    same_walk(CALL(walk_new)(dump, GORVLIME_DUMP_MOST + 1, 5, rows, rows_count), (struct gorvlime_walked){.refusal = 8});
+    same_walk(CALL(walk_new)(dump, GORVLIME_DUMP_MOST + 1, SIZE_MAX, rows, 0), (struct gorvlime_walked){.refusal = 8});
     dump[0] = 0x80;
-    same_walk(CALL(walk_new)(dump, MOST_DUMP + 1, 0, rows, rows_count), (struct gorvlime_walked){.refusal = 8});
+    same_walk(CALL(walk_new)(dump, GORVLIME_DUMP_MOST + 1, 0, rows, rows_count), (struct gorvlime_walked){.refusal = 8});
     free(dump);
     free(rows);
 }

@@ -8,8 +8,6 @@
 
 #define BIT_32 ((uint64_t)1 << 32)
 
-enum { MOST_RANGES = 16 };
-
 static const struct {
     struct gorvlime_shape shape;
     uint64_t g, refusal, h[16];
@@ -215,7 +213,7 @@ static void check_counts(struct gorvlime_shape shape, uint64_t due)
 static void check_wrong_counts(void)
 {
     struct gorvlime_shape shape = {.m = 2};
-    for (unsigned i = 0; i < MOST_RANGES; i++)
+    for (unsigned i = 0; i < GORVLIME_RANGES_MOST; i++)
         shape.v[i] = 4;
     for (shape.t = 2; shape.t <= 16; shape.t++) {
         for (shape.form = 0; shape.form <= 2; shape.form++)
@@ -232,7 +230,7 @@ static void check_each_range(void)
     struct gorvlime_shape shape = {.form = 2, .m = 3};
     for (shape.t = shape.count = 2; shape.t <= 16; shape.count = ++shape.t) {
         for (unsigned i = 0; i < shape.t; i++) {
-            for (unsigned j = 0; j < MOST_RANGES; j++)
+            for (unsigned j = 0; j < GORVLIME_RANGES_MOST; j++)
                 shape.v[j] = 4;
             for (size_t j = 0; j < sizeof out_of_bounds / sizeof out_of_bounds[0]; j++) {
                 shape.v[i] = out_of_bounds[j];
@@ -277,7 +275,7 @@ static void check_junk(struct gorvlime_shape clean)
         struct answers expected = answers_of(clean, &cells, range_at(&clean, i) - 1);
         for (size_t j = 0; j < sizeof junk / sizeof junk[0]; j++) {
             struct gorvlime_shape shape = clean;
-            for (uint64_t k = clean.count; k < MOST_RANGES; k++)
+            for (uint64_t k = clean.count; k < GORVLIME_RANGES_MOST; k++)
                 shape.v[k] = junk[j];
             struct answers got = answers_of(shape, &cells, range_at(&clean, i) - 1);
             calling("write %" PRIu64 " of %s, behind it %" PRIu64, i, told(shape), junk[j]);

@@ -5,7 +5,7 @@
 #include "check.h"
 #include "gorvlime.h"
 
-#define RANGE ((uint64_t)1 << 56)
+#define RANGE GORVLIME_RANGE_MOST
 
 /* The cells of a field in bounds. */
 struct lent lend_blank(struct gorvlime_shape shape);

@@ -21,7 +21,7 @@ const char *told(struct gorvlime_shape s)
 {
     static char words[512];
     int length = snprintf(words, sizeof words, "form %" PRIu64 " m %" PRIu64 " t %" PRIu64 " v", s.form, s.m, s.t);
-    for (uint64_t i = 0; i < s.count && i < 16; i++)
+    for (uint64_t i = 0; i < s.count && i < GORVLIME_RANGES_MOST; i++)
         length += snprintf(words + length, sizeof words - length, " %" PRIu64, s.v[i]);
     return words;
 }

@@ -8,7 +8,7 @@
 #include <stdint.h>
 
 /* Lent bytes stand between bytes of this value, which have to stay. */
-enum { UNTOUCHED = 0xa5, MARGIN = 16, MOST_LENT = 128 };
+enum { UNTOUCHED = 0xa5, MARGIN = 16, MOST_LENT = 160 };
 
 struct lent {
     size_t count;
@@ -42,6 +42,8 @@ void holds(const struct lent *lent, const char *hex);
 
 /* Prints how many checks were made; the program's exit status, which is 0 where none failed and as many were due. */
 int done(unsigned due);
+
+void check_most(void);
 
 void check_forms(void);
 

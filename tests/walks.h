@@ -4,11 +4,10 @@
 
 #include "gorvlime.h"
 
-#define RANGE ((uint64_t)1 << 56)
-#define MOST_SERIAL (UINT64_MAX >> 1)
+#define RANGE GORVLIME_RANGE_MOST
 
 /* A number that no walk stores, to be found again behind the rows. */
-enum { MOST_DUMP = 65536, NO_ROW = 77 };
+enum { NO_ROW = 77 };
 
 void same_walk(struct gorvlime_walked got, struct gorvlime_walked expected);
 
