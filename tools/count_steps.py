@@ -1,5 +1,5 @@
 #!/usr/bin/env python3
-"""Counts the multiplications and divisions of one layout: the code of crates/layout, step for step.
+"""Counts the multiplications and divisions of one layout: the code of crates/layout and crates/climbing, step for step.
 
     tools/count_steps.py [m t v g]          m 2, t 10, v 2^56, g 256 where nothing is given
 

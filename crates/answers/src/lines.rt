@@ -5,15 +5,15 @@ use code::Kind;
 use code::Shape;
 use dump::Halt;
 use dump::Opened;
-use dump::Walked;
 use reading::Reading;
 use reading::Refusal;
+use walking::Walked;
 use writing::Writing;
 ghost use mathlib.Core.Path.{_≡_};
 ghost use Prim.Native.Nat.{_≤_};
 ghost use lib.ListN.{length};
 ghost use Rattle.code.specs.Dump.{walkReply};
-ghost use Rattle.dump.specs.Answers.{walkedOf};
+ghost use Rattle.walking.specs.Answers.{walkedOf};
 ghost use Rattle.answers.specs.Bounds.{pieceMost, rowMost, Fits};
 
 // The numbers of a row that are the reply to reading the record's cells.
@@ -178,7 +178,7 @@ fn put_records(
     requires { ⌜ Fits at (now out) ⌝ }
     ensures { λ r. ⌜ Fits r (now (out .exit)) ⌝ }
 {
-    let width = dump::row_length(kind);
+    let width = walking::row_length(kind);
     let mut place = at;
     let mut from = 0;
     let mut i = 0;

@@ -1,21 +1,17 @@
--- The calls made one after the other: steps from 0 on give the walk, and walks by a few rows at a time come to an end.
-use Prim.Native.Nat.{ℕ, _+_, _*_, _-_, _≤_, _<_}
-use mathlib.Core.Path.{_≡_, refl, sym, ap, _∙_}
+-- Steps made one after the other, from where the records begin: they give the walk.
+use Prim.Native.Nat.{ℕ, _+_, _-_}
+use mathlib.Core.Path.{_≡_, refl}
 use mathlib.Core.List.{List, [], _∷_}
-use native.Mathlib.Omega.{arith}
-use lib.ListN.{length, getD}
+use lib.ListN.{length}
 use Rattle.code.specs.declared.Kind.{Kind}
 use Rattle.code.specs.Dump as Code
-use Rattle.code.specs.Dump.{rowLength}
 use Rattle.code.proofs.Walk.{walk-ended, walk-stopped, onward-taken}
-use Rattle.code.proofs.Closing.{walk-few, walk-onward}
 use Rattle.reading.specs.declared.Reading.{Reading}
-use Rattle.dump.specs.Answers.{haltNumber, haltCarries, stepOf, walkedOf}
+use Rattle.dump.specs.Answers.{haltNumber, haltCarries, stepOf}
 use Rattle.dump.specs.declared.Record as Declared
 use Rattle.dump.specs.declared.Halt.{Halt}
 use Rattle.dump.specs.declared.Step.{Step}
 use Rattle.dump.specs.declared.Step.the-variants.{Record, End, Stop}
-use Rattle.dump.specs.declared.Walked.{Walked}
 use Rattle.dump.proofs.Walking.{gives-record, record-ends, gives-end, gives-stop}
 
 -- steps as their promise allows them, each at the place behind the record before, to the end or a stop
@@ -49,12 +45,3 @@ pub steps-walk : {kind : Kind} {bytes : List ℕ} {rs : List Step} → Stepping 
     replies rs ≡ due bytes (Code.walk kind bytes)
 unfolding Code.walk
 steps-walk s = steps-onward s
-
--- A walk fills no more rows than fit; and one that has room, and meets neither the end nor a refusal, goes on, so that walks from each `next` come to an end.
-module _ (kind : Kind) (bytes : List ℕ) (at : ℕ) (rows : List ℕ) (w : Walked) (e : walkedOf w ≡ Code.walkReply kind bytes at rows) where
-  pub walked-few : rowLength kind * w .rows ≤ length rows
-  walked-few = rw (ap (λ l. getD l 2 0) e) (walk-few kind bytes at rows)
-
-  pub walked-onward : rowLength kind ≤ length rows → at ≤ length bytes → w .refusal ≡ 0 → w .ended ≡ 0 → (at < w .next) × (w .next ≤ length bytes)
-  walked-onward some l r f =
-      rw (ap (λ l. getD l 3 0) e) (walk-onward kind bytes at rows some l (ap (λ l. getD l 0 0) (sym e) ∙ r) (ap (λ l. getD l 4 0) (sym e) ∙ f))

@@ -1,21 +1,17 @@
--- The promises of steps, walks and exports leave no choice: two answers that one of them allows are equal, and so is the output afterwards.
+-- The promises of opening a dump, of steps and of a listed layout leave no choice: two answers that one of them allows are equal.
 use Prim.Native.Nat.{ℕ}
 use mathlib.Core.Path.{_≡_, refl, sym, ap, _∙_}
 use mathlib.Core.List.{List, _++_}
 use native.Mathlib.Omega.{arith}
 use lib.ListN.{length, getD, drop}
-use Rattle.code.specs.declared.Shape.{Shape}
 use Rattle.code.specs.declared.Kind.the-variants.{Old, New}
-use Rattle.code.specs.Dump.{openReply, stepReply, oldExport, newExport, exportReply, exportLeaves, walkReply, walkLeaves}
-use Rattle.code.specs.NewDump.{layoutExportReply, layoutExportLeaves, listedReply, listedFields}
+use Rattle.code.specs.Dump.{openReply, stepReply}
+use Rattle.code.specs.NewDump.{listedReply, listedFields}
 use Rattle.code.specs.Calls.{filled}
 use Rattle.code.proofs.Tests.{clash}
-use Rattle.storing.specs.Answers.{madeOf}
-use Rattle.storing.specs.declared.Made.{Made}
-use Rattle.storing.proofs.Unique.{made-alike}
 use Rattle.reading.specs.Answers.{readingOf}
 use Rattle.reading.proofs.Unique.{same-reading}
-use Rattle.dump.specs.Answers.{haltOf, openedReply, toldNumbers, stepOf, walkedOf}
+use Rattle.dump.specs.Answers.{haltOf, openedReply, toldNumbers, stepOf}
 use Rattle.dump.specs.declared.Record as Declared
 use Rattle.dump.specs.declared.Halt.{Halt}
 use Rattle.dump.specs.declared.Halt.the-variants.{Malformed, Oversize}
@@ -23,7 +19,6 @@ use Rattle.dump.specs.declared.Opened.{Opened}
 use Rattle.dump.specs.declared.Opened.the-variants.{Records, Barred}
 use Rattle.dump.specs.declared.Step.{Step}
 use Rattle.dump.specs.declared.Step.the-variants.{Record, End, Stop}
-use Rattle.dump.specs.declared.Walked.{Walked}
 use Rattle.dump.specs.declared.listed.ListedShape.{ListedShape}
 use Rattle.dump.specs.Listed.{listedOf}
 
@@ -99,41 +94,3 @@ unique-step bytes at r r′ p q = same-step r r′ (p ∙ sym q)
 
 pub unique-step-new : (bytes : List ℕ) (at : ℕ) (r r′ : Step) → stepOf r ≡ stepReply New bytes at → stepOf r′ ≡ stepReply New bytes at → r ≡ r′
 unique-step-new bytes at r r′ p q = same-step r r′ (p ∙ sym q)
-
-pub unique-export : (serial m t v : ℕ) (cells out after after′ : List ℕ) (r r′ : Made) →
-    madeOf r ≡ exportReply (oldExport serial m t v) cells out → after ≡ exportLeaves (oldExport serial m t v) cells out →
-    madeOf r′ ≡ exportReply (oldExport serial m t v) cells out → after′ ≡ exportLeaves (oldExport serial m t v) cells out → (r ≡ r′) × (after ≡ after′)
-unique-export serial m t v cells out = made-alike (exportReply (oldExport serial m t v) cells out) (exportLeaves (oldExport serial m t v) cells out)
-
-pub unique-export-record : (serial number : ℕ) (shape : Shape) (cells out after after′ : List ℕ) (r r′ : Made) →
-    madeOf r ≡ exportReply (newExport serial number shape) cells out → after ≡ exportLeaves (newExport serial number shape) cells out →
-    madeOf r′ ≡ exportReply (newExport serial number shape) cells out → after′ ≡ exportLeaves (newExport serial number shape) cells out →
-    (r ≡ r′) × (after ≡ after′)
-unique-export-record serial number shape cells out =
-    made-alike (exportReply (newExport serial number shape) cells out) (exportLeaves (newExport serial number shape) cells out)
-
-pub unique-layout-export : (shape : Shape) (out after after′ : List ℕ) (r r′ : Made) →
-    madeOf r ≡ layoutExportReply shape out → after ≡ layoutExportLeaves shape out →
-    madeOf r′ ≡ layoutExportReply shape out → after′ ≡ layoutExportLeaves shape out → (r ≡ r′) × (after ≡ after′)
-unique-layout-export shape out = made-alike (layoutExportReply shape out) (layoutExportLeaves shape out)
-
-walk-alike : (reply leaves after after′ : List ℕ) (r r′ : Walked) → walkedOf r ≡ reply → after ≡ leaves → walkedOf r′ ≡ reply → after′ ≡ leaves →
-    (r ≡ r′) × (after ≡ after′)
-walk-alike reply leaves after after′ r r′ p a p′ a′ =
-    let q : walkedOf r ≡ walkedOf r′ = p ∙ sym p′ in
-    let b : r .refusal ≡ r′ .refusal = cc in
-    let c : r .offset ≡ r′ .offset = cc in
-    let d : r .rows ≡ r′ .rows = cc in
-    let e : r .next ≡ r′ .next = cc in
-    let f : r .ended ≡ r′ .ended = cc in
-    (λ i. record { refusal = b i; offset = c i; rows = d i; next = e i; ended = f i }, a ∙ sym a′)
-
-pub unique-walk : (bytes : List ℕ) (at : ℕ) (rows after after′ : List ℕ) (r r′ : Walked) →
-    walkedOf r ≡ walkReply Old bytes at rows → after ≡ walkLeaves Old bytes at rows →
-    walkedOf r′ ≡ walkReply Old bytes at rows → after′ ≡ walkLeaves Old bytes at rows → (r ≡ r′) × (after ≡ after′)
-unique-walk bytes at rows = walk-alike (walkReply Old bytes at rows) (walkLeaves Old bytes at rows)
-
-pub unique-walk-new : (bytes : List ℕ) (at : ℕ) (rows after after′ : List ℕ) (r r′ : Walked) →
-    walkedOf r ≡ walkReply New bytes at rows → after ≡ walkLeaves New bytes at rows →
-    walkedOf r′ ≡ walkReply New bytes at rows → after′ ≡ walkLeaves New bytes at rows → (r ≡ r′) × (after ≡ after′)
-unique-walk-new bytes at rows = walk-alike (walkReply New bytes at rows) (walkLeaves New bytes at rows)

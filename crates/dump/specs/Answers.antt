@@ -2,9 +2,8 @@
 use Prim.Native.Nat.{ℕ, _≤_}
 use mathlib.Core.Path.{_≡_}
 use mathlib.Core.List.{List, [], _∷_, _++_}
-use lib.ListN.{length, getD, take}
+use lib.ListN.{length, take}
 use Rattle.code.specs.declared.Kind.{Kind}
-use Rattle.code.specs.declared.Kind.the-variants.{Old, New}
 use Rattle.code.specs.Dump as Code
 use Rattle.reading.specs.Answers.{readingOf}
 use Rattle.records.specs.Source.{sourceOf}
@@ -17,7 +16,6 @@ use Rattle.dump.specs.declared.Located.{Located}
 use Rattle.dump.specs.declared.Located.the-variants.{Record as RecordThere, End as EndThere, Stop as StopThere}
 use Rattle.dump.specs.declared.Step.{Step}
 use Rattle.dump.specs.declared.Step.the-variants.{Record, End, Stop}
-use Rattle.dump.specs.declared.Walked.{Walked}
 use Rattle.dump.specs.declared.Record as Declared
 
 -- 01, Numbers that bound everything; RULES 12: "A dump: 0 to 65,536 bytes"
@@ -71,19 +69,7 @@ locatedOf source (StopThere halt) = Code.stopped (haltNumber halt) (haltCarries 
 abbrev pub toldNumbers : Declared.Record → List ℕ
 toldNumbers r = r .serial ∷ r .layout ∷ r .brief .form ∷ r .brief .m ∷ r .brief .t ∷ r .brief .v ∷ r .start ∷ r .count ∷ []
 
--- those of its row before the reading, as `rowNumbers` has them
-abbrev pub rowTold : Kind → Declared.Record → List ℕ
-rowTold Old r = r .serial ∷ r .brief .m ∷ r .brief .t ∷ r .brief .v ∷ r .start ∷ r .count ∷ []
-rowTold New r = toldNumbers r
-
 abbrev pub stepOf : Step → List ℕ
 stepOf (Record r outcome) = 0 ∷ (toldNumbers r ++ readingOf outcome)
 stepOf End = 0 ∷ []
 stepOf (Stop halt) = haltOf halt
-
-abbrev pub walkedOf : Walked → List ℕ
-walkedOf r = r .refusal ∷ r .offset ∷ r .rows ∷ r .next ∷ r .ended ∷ []
-
--- what a walk answers that stops where the next step would start, after so many rows
-abbrev pub haltedBy : ℕ → ℕ → Halt → List ℕ
-haltedBy next rows halt = haltNumber halt ∷ getD (haltCarries halt) 0 0 ∷ rows ∷ next ∷ 0 ∷ []

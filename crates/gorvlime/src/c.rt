@@ -15,8 +15,9 @@ ghost use Rattle.code.specs.declared.Kind.the-variants.{Old, New};
 ghost use Rattle.code.specs.Dump.{oldExport, newExport, exportReply, exportLeaves, openReply, stepReply, walkReply, walkLeaves};
 ghost use Rattle.code.specs.NewDump.{layoutExportReply, layoutExportLeaves, listedReply, listedFields, toNewReply, toNewLeaves, toOldReply, toOldLeaves};
 ghost use Rattle.code.specs.Hex.{hexExportReply, hexExportLeaves, hexImportReply, hexImportLeaves};
-ghost use Rattle.dump.specs.Answers.{haltOf, openedReply, stepOf, walkedOf};
+ghost use Rattle.dump.specs.Answers.{haltOf, openedReply, stepOf};
 ghost use Rattle.dump.specs.Listed.{listedOf};
+ghost use Rattle.walking.specs.Answers.{walkedOf};
 ghost use Rattle.moves.specs.Answers.{movedOf};
 ghost use Rattle.storing.specs.Answers.{madeOf};
 ghost use Rattle.gorvlime.specs.Fields.{madeFields, openFields, movedFields, offsetFields, stepFields, newStepFields};
@@ -275,7 +276,7 @@ pub extern "C" fn gorvlime_listed_shape(bytes: &[u8], number: u64) -> dump::list
 }
 
 #[no_mangle]
-pub extern "C" fn gorvlime_walk(bytes: &[u8], at: usize, rows: &mut [u64]) -> dump::Walked
+pub extern "C" fn gorvlime_walk(bytes: &[u8], at: usize, rows: &mut [u64]) -> walking::Walked
     ensures { λ r. ⌜ walkedOf r ≡ walkReply Old (now (bytes .entry)) at (now (rows .entry)) ⌝ }
     ensures { λ r. ⌜ now (rows .exit) ≡ walkLeaves Old (now (bytes .entry)) at (now (rows .entry)) ⌝ }
 {
@@ -283,7 +284,7 @@ pub extern "C" fn gorvlime_walk(bytes: &[u8], at: usize, rows: &mut [u64]) -> du
 }
 
 #[no_mangle]
-pub extern "C" fn gorvlime_walk_new(bytes: &[u8], at: usize, rows: &mut [u64]) -> dump::Walked
+pub extern "C" fn gorvlime_walk_new(bytes: &[u8], at: usize, rows: &mut [u64]) -> walking::Walked
     ensures { λ r. ⌜ walkedOf r ≡ walkReply New (now (bytes .entry)) at (now (rows .entry)) ⌝ }
     ensures { λ r. ⌜ now (rows .exit) ≡ walkLeaves New (now (bytes .entry)) at (now (rows .entry)) ⌝ }
 {

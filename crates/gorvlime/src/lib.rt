@@ -5,13 +5,13 @@ use code::Kind;
 use code::Shape;
 use dump::Opened;
 use dump::Step;
-use dump::Walked;
 use dump::listed::ListedShape;
 use layout::Layout;
 use many::Many;
 use moves::Moved;
 use reading::Reading;
 use storing::Made;
+use walking::Walked;
 use writing::Writing;
 ghost use mathlib.Core.Path.{_≡_};
 ghost use mathlib.Core.List.{_∷_};
@@ -25,8 +25,9 @@ ghost use Rattle.code.specs.Hex.{hexExportReply, hexExportLeaves, hexImportRepl
 ghost use Rattle.reading.specs.Answers.{readingOf};
 ghost use Rattle.writing.specs.Answers.{writingOf};
 ghost use Rattle.many.specs.Answers.{manyOf};
-ghost use Rattle.dump.specs.Answers.{openedReply, stepOf, walkedOf};
+ghost use Rattle.dump.specs.Answers.{openedReply, stepOf};
 ghost use Rattle.dump.specs.Listed.{listedOf};
+ghost use Rattle.walking.specs.Answers.{walkedOf};
 ghost use Rattle.moves.specs.Answers.{movedOf};
 ghost use Rattle.storing.specs.Answers.{madeOf};
 
@@ -65,7 +66,7 @@ pub fn export(serial: u64, m: u64, t: u64, v: u64, cells: &[u8], out: &mut [u8])
     ensures { λ r. ⌜ madeOf r ≡ exportReply (oldExport serial m t v) (now (cells .entry)) (now (out .entry)) ⌝ }
     ensures { λ r. ⌜ now (out .exit) ≡ exportLeaves (oldExport serial m t v) (now (cells .entry)) (now (out .entry)) ⌝ }
 {
-    dump::export::export_old(serial, m, t, v, cells, out)
+    exports::export_old(serial, m, t, v, cells, out)
 }
 
 // A layout for the list of a new dump, at the front of the output.
@@ -73,7 +74,7 @@ pub fn export_layout(shape: Shape, out: &mut [u8]) -> Made
     ensures { λ r. ⌜ madeOf r ≡ layoutExportReply shape (now (out .entry)) ⌝ }
     ensures { λ r. ⌜ now (out .exit) ≡ layoutExportLeaves shape (now (out .entry)) ⌝ }
 {
-    dump::export::export_layout(shape, out)
+    exports::export_layout(shape, out)
 }
 
 // The record of a field for a new dump, whose layout has a number in its list, at the front of the output.
@@ -81,7 +82,7 @@ pub fn export_record(serial: u64, number: u64, shape: Shape, cells: &[u8], out: 
     ensures { λ r. ⌜ madeOf r ≡ exportReply (newExport serial number shape) (now (cells .entry)) (now (out .entry)) ⌝ }
     ensures { λ r. ⌜ now (out .exit) ≡ exportLeaves (newExport serial number shape) (now (cells .entry)) (now (out .entry)) ⌝ }
 {
-    dump::export::export_record(serial, number, shape, cells, out)
+    exports::export_record(serial, number, shape, cells, out)
 }
 
 // The record at a place of an old dump.
@@ -124,7 +125,7 @@ pub fn walk(bytes: &[u8], at: usize, rows: &mut [u64]) -> Walked
     ensures { λ r. ⌜ walkedOf r ≡ walkReply Old (now (bytes .entry)) at (now (rows .entry)) ⌝ }
     ensures { λ r. ⌜ now (rows .exit) ≡ walkLeaves Old (now (bytes .entry)) at (now (rows .entry)) ⌝ }
 {
-    dump::walk(bytes, Kind::Old, at, rows)
+    walking::walk(bytes, Kind::Old, at, rows)
 }
 
 // The records from a place of a new dump on, thirteen numbers each, as many as fit into the rows.
@@ -132,7 +133,7 @@ pub fn walk_new(bytes: &[u8], at: usize, rows: &mut [u64]) -> Walked
     ensures { λ r. ⌜ walkedOf r ≡ walkReply New (now (bytes .entry)) at (now (rows .entry)) ⌝ }
     ensures { λ r. ⌜ now (rows .exit) ≡ walkLeaves New (now (bytes .entry)) at (now (rows .entry)) ⌝ }
 {
-    dump::walk(bytes, Kind::New, at, rows)
+    walking::walk(bytes, Kind::New, at, rows)
 }
 
 // The new dump that an old one moves to, at the front of the output.

@@ -10,7 +10,7 @@ use Rattle.code.specs.Count.{least}
 use Rattle.code.specs.Layout.{room}
 use Rattle.code.proofs.Tests.{le-or-lt, least-le, least-passes}
 use Rattle.code.proofs.Count.{fewer-grows, fewer-more}
-use Rattle.layout.specs.Climb.{held, Least}
+use Rattle.climbing.specs.Climb.{held, Least}
 
 -- more groups above the same next count hold no less
 held-up : (b first low x y : ℕ) → x ≤ y → held b first low x ≤ held b first low y

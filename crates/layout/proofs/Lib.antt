@@ -1,9 +1,6 @@
 pub mod Least
-pub mod Last
-pub mod Pascal
 pub mod Tail
 pub mod Reply
-pub mod Ranges
 pub mod Demand
 pub mod Unique
 pub mod Planning

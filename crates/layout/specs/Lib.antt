@@ -1,2 +1,2 @@
-pub mod Climb
 pub mod Plan
+pub mod Tail

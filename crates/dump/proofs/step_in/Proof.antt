@@ -2,7 +2,7 @@
 use mathlib.Core.Path.{_∙_}
 use borrow.Author.Needs.{needs}
 use Rattle.code.specs.Dump.{stepValues}
-use Rattle.dump.proofs.Keeping.{record-told}
+use Rattle.dump.proofs.Keeping.{shape-told}
 use Rattle.dump.proofs.Walking.{located-reply}
 use Rattle.dump.proofs.step_in.Statement.{statement}
 use Rattle.dump.proofs.step_in.Tie as tie
@@ -24,10 +24,10 @@ step-in-spec =
     (λ c. search needs)
     -- returns
     (λ c.
-    let shape = c .before .frame .ensures in
-    let read = c .before .before .before .read .ensures in
+    let said = c .before .before .before .before .before .shape-said .ensures in
+    let part = c .before .before .before .before .part .ensures in
     let found = c .before .before .before .before .before .before .before in
-    record-told _ _ _ _ _ _ _ (shape ∙ c .before .before .before .before .before .shape-said .ensures) (c .record-of .ensures) (read ∙ cc (shape, c .before .before .before .before .part .ensures))
+    shape-told _ _ _ (c .before .frame .ensures) said (c .record-of .ensures) (c .before .before .before .read .ensures) part
     ∙ located-reply _ _ _ (rw (found .head .given .1) at (found .before .before .locate .ensures)))
     -- returns-2
     (λ c. located-reply _ _ _ (rw (c .enum-told .given .1) at (c .before .before .locate .ensures)))

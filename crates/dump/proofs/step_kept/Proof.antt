@@ -29,4 +29,6 @@ step-kept-spec =
     -- returns-2
     (λ c. let l = c .before .before in (located-reply _ _ _ (rw (c .enum-told .given .1) at (l .locate .ensures)), l .before .before .before .pre .1))
     -- returns-3
-    (λ c. let l = c .before .before .before in (located-reply _ _ _ (rw (c .before .halt .given .1) at (l .locate .ensures)), l .before .before .before .pre .1)))
+    (λ c.
+    let l = c .before .before .before in
+    (located-reply _ _ _ (rw (c .before .halt .given .1) at (l .locate .ensures)), l .before .before .before .pre .1)))

@@ -1,7 +1,6 @@
 -- `dump::step_record` meets its contract. Assumes nothing.
 use mathlib.Core.Path.{ap, _∙_}
 use borrow.Author.Needs.{needs}
-use Rattle.code.specs.Calls.{readReply}
 use Rattle.records.specs.Head.{saidShape}
 use Rattle.dump.proofs.Keeping.{record-told}
 use Rattle.dump.proofs.step_record.Statement.{statement}
@@ -20,4 +19,4 @@ step-record-spec =
     (λ c.
     let next = c .before .before .before .before .before .before .before .renew .ensures in
     let said = next .1 .same ∙ ap (saidShape _) (next .0) in
-    (record-told _ _ _ _ _ _ _ said (c .record-of .ensures) (c .before .before .read-by .ensures ∙ ap (readReply _) (c .before .before .before .part .ensures)), next .1)))
+    (record-told _ _ _ said (c .record-of .ensures) (c .before .before .read-by .ensures) (c .before .before .before .part .ensures), next .1)))

@@ -5,8 +5,8 @@ use native.Mathlib.Omega.{arith}
 use borrow.Author.Needs.{needs}
 use denote.Ref.{now}
 use lib.ListN.{length}
-use Rattle.dump.proofs.Walking.{row-some}
-use Rattle.dump.proofs.Runs.{walked-onward}
+use Rattle.walking.proofs.Rows.{row-some}
+use Rattle.walking.proofs.Runs.{walked-onward}
 use Rattle.answers.specs.Bounds.{Fits}
 use Rattle.answers.proofs.lines.put_all_records.Statement.{statement}
 use Rattle.answers.proofs.lines.put_all_records.Tie as tie

@@ -4,7 +4,7 @@ use Prim.Native.Nat.{_-_, _≤_}
 use native.Mathlib.Omega.{arith}
 use borrow.Author.Needs.{needs}
 use lib.ListN.{length}
-use Rattle.dump.proofs.Walking.{row-some}
+use Rattle.walking.proofs.Rows.{row-some}
 use Rattle.answers.specs.Bounds.{Fits}
 use Rattle.answers.proofs.lines.put_records.Statement.{statement}
 use Rattle.answers.proofs.lines.put_records.Tie as tie

@@ -1,8 +1,10 @@
 -- `dump::listed::listed_shape` meets its contract. Assumes nothing.
 use native.Mathlib.Omega.{arith}
-use mathlib.Core.Path.{_∙_}
+use mathlib.Core.Path.{ap, _∙_}
+use mathlib.Core.List.{_∷_}
 use native.Mathlib.Nat.{sub-zero}
 use borrow.Author.Needs.{needs}
+use lib.ListN.{replicate}
 use Rattle.dump.proofs.Walking.{opened-few}
 use Rattle.dump.proofs.Naming.{listed-opened, listed-barred}
 use Rattle.dump.proofs.listed.listed_shape.Statement.{statement}
@@ -29,4 +31,5 @@ listed-shape-spec =
     -- returns-2
     (λ c.
     let halted = c .before .before .before in
-    c .refuse .ensures ∙ cc (c .before .number-of .ensures) ∙ listed-barred _ (halted .before .before .«open» .ensures) (halted .halt .given .1)))
+    let told = ap (λ number. number ∷ replicate 20 0) (c .before .number-of .ensures) in
+    c .refuse .ensures ∙ told ∙ listed-barred _ (halted .before .before .«open» .ensures) (halted .halt .given .1)))
