@@ -20,27 +20,27 @@
 //
 // SHAPE is form m t k v_1 .. v_k, where k counts the ranges. CELLS and OUT are the lent bytes afterwards in hex, left out where there are none. A stream
 // that can't be followed ends with `cut off`, `no such call` or `too long`.
-mod input;
-mod lines;
-mod moved;
-mod output;
-mod protocol;
+mod fields;
 mod stored;
-mod written;
+mod walks;
 
-use input::Window;
-use protocol::Call;
-use protocol::Operation;
-ghost use mathlib.Core.Path.{_≡_};
-ghost use Prim.Native.Nat.{_-_, _≤_};
+use lines::output;
+use lines::output::Text;
+use protocol::calls;
+use protocol::calls::Call;
+use protocol::calls::Operation;
+use protocol::input;
+use protocol::input::Buffer;
+use protocol::input::Window;
+ghost use Prim.Native.Nat.{_≤_};
 ghost use lib.ListN.{length};
-ghost use Rattle.answers.specs.Bounds.{callMost, outputMost, rowMost, Fits, InBuffer, Within};
+ghost use Rattle.protocol.specs.Bounds.{callMost, outputMost, InBuffer};
+ghost use Rattle.lines.specs.Bounds.{textMost};
 
 fn main() {
-    let mut buffer = [0u8; 81920];
-    let mut rows = [0u64; 640];
-    let mut out = [0u8; 8192];
-    answer_all(&mut buffer, &mut rows, &mut out);
+    let mut buffer = [0u8; input::BUFFER_MOST];
+    let mut out = [0u8; output::TEXT_MOST];
+    answer_all(&mut buffer, &mut out);
 }
 
 // How far a stream is answered. What is not yet written of the text stands in the output before a place.
@@ -51,9 +51,7 @@ struct State {
 }
 
 // A proved loop has to end, and nothing says that a stream does: the turns are counted down, from a number that no run uses up.
-fn answer_all(buffer: &mut [u8], rows: &mut [u64], out: &mut [u8])
-    requires { ⌜ (callMost ≤ length (now buffer)) × (rowMost ≤ length (now rows)) × Fits 0 (now out) ⌝ }
-{
+fn answer_all(buffer: &mut Buffer, out: &mut Text) {
     let mut turns = u64::MAX;
     let window = Window {
         at: 0,
@@ -66,79 +64,46 @@ fn answer_all(buffer: &mut [u8], rows: &mut [u64], out: &mut [u8])
         over: false,
     };
     while 0 < turns && !s.over {
-        s = answer_next(buffer, s, rows, out);
+        s = answer_next(buffer, s, out);
         turns -= 1;
     }
     output::write_out(out, s.place);
 }
 
-// What stands behind a call of so many bytes.
-fn behind(window: Window, count: usize) -> Window
-    requires { ⌜ (window .at ≤ window .end) × (count ≤ window .end - window .at) ⌝ }
-    ensures { λ r. ⌜ (r .at ≤ r .end) × (r .end ≡ window .end) ⌝ }
+fn answer_next(buffer: &mut [u8], s: State, out: &mut Text) -> State
+    requires { ⌜ InBuffer (s .window) (length (now buffer)) × (callMost ≤ length (now buffer)) × (s .place ≤ textMost) ⌝ }
+    ensures { λ r. ⌜ InBuffer (r .window) (length (now (buffer .exit))) × (r .place ≤ textMost) ⌝ }
 {
-    Window {
-        at: window.at + count,
-        end: window.end,
-        ended: window.ended,
-    }
-}
-
-fn answer_next(buffer: &mut [u8], s: State, rows: &mut [u64], out: &mut [u8]) -> State
-    requires { ⌜ InBuffer (s .window) (now buffer) × (callMost ≤ length (now buffer)) × (rowMost ≤ length (now rows)) × Fits (s .place) (now out) ⌝ }
-    ensures { λ r. ⌜ InBuffer (r .window) (now (buffer .exit)) × Fits (r .place) (now (out .exit)) ⌝ }
-{
-    let window = input::refill(buffer, s.window);
-    let at = window.at;
-    let end = window.end;
-    if at == end {
-        return State {
-            window,
-            place: s.place,
-            over: true,
-        };
-    }
-    let call = protocol::read_call(&buffer[at..end]);
-    let rest = behind(window, call.end);
-    // What a call is lent for its output is filled with A5.
-    let mut lent = [0xa5u8; protocol::OUTPUT_MOST];
-    let place = answer(call, &mut buffer[at..end], rows, &mut lent, out, s.place);
+    let mut numbers = [0u64; calls::LISTED_MOST];
+    let next = input::next_call(buffer, s.window, &mut numbers);
+    let start = next.start;
+    let end = next.end;
+    let call = next.call;
+    let count = call.listed;
+    let place = answer(
+        call,
+        &mut buffer[start..end],
+        &numbers[0..count],
+        out,
+        s.place,
+    );
+    let window = next.rest;
     State {
-        window: rest,
+        window,
         place,
-        over: call.end == 0,
+        over: next.over,
     }
 }
 
-fn answer(
-    call: Call,
-    bytes: &mut [u8],
-    rows: &mut [u64],
-    lent: &mut [u8],
-    out: &mut [u8],
-    at: usize,
-) -> usize
-    requires { ⌜ Within call (now bytes) × (rowMost ≤ length (now rows)) × (outputMost ≤ length (now lent)) × Fits at (now out) ⌝ }
-    ensures { λ r. ⌜ Fits r (now (out .exit)) ⌝ }
+fn answer(call: Call, bytes: &mut [u8], numbers: &[u64], out: &mut Text, at: usize) -> usize
+    requires { ⌜ (call .room ≤ outputMost) × (at ≤ textMost) ⌝ }
+    ensures { λ r. ⌜ r ≤ textMost ⌝ }
 {
     let operation = call.operation;
-    let start = call.start;
-    let end = call.end;
-    let s = protocol::shape_of(bytes, call);
     match operation {
-        Operation::Layout => lines::put_layout(out, at, s, call.behind),
-        Operation::Read => lines::put_read(out, at, s, &bytes[start..end]),
-        Operation::Write => lines::put_write(out, at, s, call.behind, &mut bytes[start..end]),
-        Operation::WriteMany => {
-            let mut numbers = [0u64; protocol::LISTED_MOST];
-            let listed = protocol::read_list(bytes, call, &mut numbers);
-            written::put_many(out, at, s, &mut bytes[start..end], &numbers[0..listed])
-        }
-        Operation::Walk => lines::put_walk(out, at, &bytes[start..end], rows),
-        Operation::WalkNew => lines::put_walk_new(out, at, &bytes[start..end], rows),
-        Operation::Store(which) => {
-            stored::put_stored(out, at, call, s, which, &bytes[start..end], lent)
-        }
-        Operation::Broken(why) => lines::put_broken(out, at, why),
+        Operation::OnField(which) => fields::put_on_field(out, at, call, which, bytes, numbers),
+        Operation::Walk(kind) => walks::put_walk(out, at, kind, bytes),
+        Operation::Store(which) => stored::put_stored(out, at, call, which, bytes),
+        Operation::Broken(why) => lines::put_broken_line(out, at, why),
     }
 }

@@ -1,17 +1,16 @@
 -- `answers::answer_all` meets its contract. Assumes nothing.
-use mathlib.Core.Path.{_≡_}
+use Prim.Native.Nat.{_≤_}
 use borrow.Author.Needs.{needs}
-use lib.ListN.{length}
-use Rattle.answers.specs.Bounds.{Fits, InBuffer}
+use Rattle.protocol.specs.Bounds.{bufferMost, InBuffer}
+use Rattle.lines.specs.Bounds.{textMost}
 use Rattle.answers.proofs.answer_all.Statement.{statement}
 use Rattle.answers.proofs.answer_all.Tie as tie
 
 abbrev Inv-loop : tie.InvT-loop
-Inv-loop buffer₀ rows₀ out₀ turns₀ s₀ buffer rows out turns s =
-    (length buffer ≡ length buffer₀) × (length rows ≡ length rows₀) × (length out ≡ length out₀) × InBuffer (s .window) buffer × Fits (s .place) out
+Inv-loop buffer₀ out₀ turns₀ s₀ buffer out turns s = InBuffer (s .window) bufferMost × (s .place ≤ textMost)
 
 abbrev μ-loop : tie.MeasureT-loop
-μ-loop buffer₀ rows₀ out₀ turns₀ s₀ buffer rows out turns s = turns
+μ-loop buffer₀ out₀ turns₀ s₀ buffer out turns s = turns
 
 pub answer-all-spec : {M : Type 1} → statement M
 answer-all-spec =
@@ -25,7 +24,4 @@ answer-all-spec =
     (λ c. search needs)
     (λ c. search needs)
     (λ c κs. search needs)
-    (λ c. search needs)
-    (λ c. search needs)
-    (λ c. search needs)
     (λ c. search needs))
