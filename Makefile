@@ -14,7 +14,7 @@ help: ## lists the targets
 	@sed -n 's/^\([a-z]*\):.*## /make \1\t/p' Makefile | expand -t 18
 
 demo: ## proves fieldlist and lists samples/drives.dump with it: seven fields, one of them damaged
-	@echo 'Proves fieldlist (some 6 minutes on two cores the first time, seconds later on) and lists samples/drives.dump:' >&2
+	@echo 'Proves fieldlist (some 4 minutes on two cores the first time, seconds later on) and lists samples/drives.dump:' >&2
 	@tools/prove check fieldlist
 	@tools/run fieldlist <samples/drives.dump
 
