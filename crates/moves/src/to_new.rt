@@ -205,7 +205,8 @@ pub fn move_records(dump: &[u8], places: &[u16], out: &mut [u8]) -> Moved
     ensures { λ r. ⌜ movedOf r ≡ toNewReply (now (dump .entry)) (now (out .entry)) ⌝ }
     ensures { λ r. ⌜ now (out .exit) ≡ toNewLeaves (now (dump .entry)) (now (out .entry)) ⌝ }
 {
-    let mut kept = [0u64; KEPT_MOST];
+    // Ones, since so many zeros would be stored by a call of memset, which a board may lack.
+    let mut kept = [1u64; KEPT_MOST];
     match collect(dump, places, &mut kept) {
         Collected::Whole { total, layouts } => store(dump, places, &kept, layouts, total, out),
         Collected::Stopped(halt) => crate::stop_move(halt),
