@@ -84,6 +84,9 @@ small-product most q b h l = mul-le-mul h l
 pub valued-room : (q b : ℕ) → q < cap → b ≤ 15 → q * b ≤ cap * 15
 valued-room q b l h = small-product 15 q b (omega arith) h
 
+pub valued-far : (q b : ℕ) {x : ℕ} → 0 < b → q * b ≡ x → cap ≤ q → cap ≤ x
+valued-far q b pos e h = omega (arith, e, le-mul-of-pos-right q pos)
+
 pub room : (c n j : ℕ) → (j ≡ 0 → c ≤ 1) → c < cap → n ≤ 256 → c * (n - j) < 2 ^ 64
 room c n zero z h w = omega (arith, mul-le-mul {m₁ = n - 0} {m₂ = 256} (z refl) (omega arith))
 room c n (suc j) z h w = omega (arith, mul-le-mul {n₁ = c} {m₁ = n - suc j} {n₂ = 2 ^ 56} {m₂ = 255} (omega arith) (omega arith))
@@ -185,9 +188,6 @@ module _ (b s j term : ℕ) (e : term ≡ choose s j * b ^ j) where
     term-next =
         let x : q ≡ choose s (suc j) * b ^ j = eq ∙ rw e (next-term s j (b ^ j) l) in
         rw pow-suc (omega (arith, ap (λ (y : ℕ). y * b) x))
-
-    pub term-far : 0 < b → cap ≤ q → cap ≤ choose s (suc j) * b ^ suc j
-    term-far pos h = omega (arith, term-next, le-mul-of-pos-right q pos)
 
 -- one row up, in the same column and in the one before
 down : (n k : ℕ) → choose (suc n) (suc k) * suc k ≡ choose n k * suc n

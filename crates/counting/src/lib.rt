@@ -138,12 +138,20 @@ struct Partial {
     sum: u64,
 }
 
+// C(s, j + 1) · b^j, from the term at j, which is C(s, j) · b^j; b stands here for the promise.
+fn one_more(term: u64, b: u64, s: u64, j: u64) -> u64
+    requires { ⌜ (0 < b) × (s ≤ 256) × (j < s) × (term < cap) × (term ≡ choose s j * b ^ j) ⌝ }
+    ensures { λ r. ⌜ r * b ≡ choose s (suc j) * b ^ suc j ⌝ }
+{
+    term * (s - j) / (j + 1)
+}
+
 // The sum with the term at j + 1, of one whose last is at j. At the cap the term no longer counts.
 fn add_next(b: u64, s: u64, j: u64, p: Partial) -> Partial
     requires { ⌜ (0 < b) × (b ≤ 15) × (s ≤ 256) × (j < s) × (p .sum < cap) × (p .term ≤ p .sum) × (p .term ≡ choose s j * b ^ j) ⌝ }
     ensures { λ r. ⌜ (cap ≤ r .sum → cap ≤ p .sum + choose s (suc j) * b ^ suc j) × (r .sum < cap → r .sum ≡ p .sum + r .term) × (r .sum < cap → r .term ≡ choose s (suc j) * b ^ suc j) ⌝ }
 {
-    let q = p.term * (s - j) / (j + 1);
+    let q = one_more(p.term, b, s, j);
     if CAP <= q {
         return Partial {
             term: CAP,
@@ -210,7 +218,7 @@ pub fn next_term(term: u64, b: u64, s: u64, j: u64) -> u64
     requires { ⌜ (0 < b) × (b ≤ 15) × (s ≤ 256) × (j < s) × (term < cap) × (term ≡ choose s j * b ^ j) ⌝ }
     ensures { λ r. ⌜ r ≡ sat (choose s (suc j) * b ^ suc j) ⌝ }
 {
-    let q = term * (s - j) / (j + 1);
+    let q = one_more(term, b, s, j);
     if CAP <= q {
         return CAP;
     }
