@@ -35,7 +35,7 @@ test: ## proves every crate, tries every wrong build and runs every test
 	@tests/run-hex
 	@tests/run-install
 	@tests/run-collector
-	@tools/frames $(ARCHIVE) --limit 2200 --limit gorvlime_layout=320 --limit gorvlime_move_to_new=2400
+	@tools/frames $(ARCHIVE) --limit 1800 --limit gorvlime_layout=320 --limit gorvlime_move_to_new=2300
 	@tests/crosscheck $(CALLS)
 	@tests/run-commands
 	@rt ci

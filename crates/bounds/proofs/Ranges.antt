@@ -1,6 +1,7 @@
 -- The bounds as the code tests them: first those of the frame, then the ranges one by one.
 use Prim.Native.Nat.{ℕ, suc, _+_, _-_, _^_, _≤_, _<_}
 use mathlib.Core.Path.{_≡_, sym, _∙_}
+use mathlib.Core.List.{List}
 use mathlib.Core.Bool.{Bool, true, false, cond, not, _&&_}
 use native.Mathlib.Omega.{arith}
 use native.Mathlib.Nat.{sub-zero}
@@ -8,10 +9,11 @@ use native.Mathlib.Numerals.{add-one}
 use lib.Dec.{leb, eqb}
 use lib.ListN.{getD}
 use borrow.Author.Tests.{not-true, not-false, leb-true, eqb-true}
-use Rattle.code.specs.declared.Shape.{Shape}
+use Rattle.code.specs.declared.Frame.{Frame}
 use Rattle.code.specs.Cells.{listed}
-use Rattle.code.specs.Shape.{rangesDue, given, allRanges, outside}
+use Rattle.code.specs.Shape.{framed, rangesDue, given, allRanges, outside}
 use Rattle.code.proofs.Tests.{both-true}
+use Rattle.bounds.specs.Frames.{frameOutside}
 
 module _ (f : ℕ → ℕ) (n i : ℕ) where
   module _ (l : i < n) where
@@ -31,32 +33,33 @@ module _ (f : ℕ → ℕ) (n i : ℕ) where
   unfolding allRanges listed
   ranges-end l = let q : n - i ≡ 0 = omega arith in rw q
 
--- the bounds of form, m and t, and as many ranges as are due
-abbrev pub framedWell : Shape → ℕ → Bool
-framedWell s due = leb (s .form) 2 && (leb 2 (s .m) && leb (s .m) 4) && (leb 2 (s .t) && leb (s .t) 16) && eqb (s .count) due
+-- the form, m and t within their bounds, and as many ranges as are due
+abbrev framedWell : Frame → Bool
+framedWell f = leb (f .form) 2 && (leb 2 (f .m) && leb (f .m) 4) && (leb 2 (f .t) && leb (f .t) 16) && eqb (f .count) (rangesDue (f .form) (f .t))
 
-module _ (s : Shape) (due : ℕ) (q : due ≡ rangesDue (s .form) (s .t)) where
-  pub frame-wrong : (g : ℕ) → not (framedWell s due) ≡ true → true ≡ outside s g
-  unfolding outside
-  frame-wrong g w = rw (← q, not-true (framedWell s due) w)
+module _ (f : Frame) where
+  pub outside-by-frame : frameOutside f ≡ true → (v : List ℕ) (g : ℕ) → outside (framed f v) g ≡ true
+  unfolding outside frameOutside
+  outside-by-frame w v g = rw (not-true (framedWell f) w)
 
-  module _ (w : not (framedWell s due) ≡ false) where
-    pub count-within : (0 < s .count) × (s .count ≤ 16)
-    unfolding rangesDue
+  module _ (w : frameOutside f ≡ false) where
+    pub count-within : (0 < f .count) × (f .count ≤ 16)
+    unfolding rangesDue frameOutside
     count-within =
-        let m = leb (s .form) 2 && (leb 2 (s .m) && leb (s .m) 4) in
-        let t = leb 2 (s .t) && leb (s .t) 16 in
-        let a = both-true (m && t) (eqb (s .count) due) (not-false (framedWell s due) w) in
-        let b = both-true (leb 2 (s .t)) (leb (s .t) 16) (both-true m t (a .0) .1) in
-        go (eqb (s .form) 2) (eqb-true (s .count) due (a .1) ∙ q) (leb-true 2 (s .t) (b .0)) (leb-true (s .t) 16 (b .1))
+        let m = leb (f .form) 2 && (leb 2 (f .m) && leb (f .m) 4) in
+        let t = leb 2 (f .t) && leb (f .t) 16 in
+        let due = rangesDue (f .form) (f .t) in
+        let a = both-true (m && t) (eqb (f .count) due) (not-false (framedWell f) w) in
+        let b = both-true (leb 2 (f .t)) (leb (f .t) 16) (both-true m t (a .0) .1) in
+        go (eqb (f .form) 2) (eqb-true (f .count) due (a .1)) (leb-true 2 (f .t) (b .0)) (leb-true (f .t) 16 (b .1))
       where
-        go : (b : Bool) → s .count ≡ cond b (s .t) 1 → 2 ≤ s .t → s .t ≤ 16 → (0 < s .count) × (s .count ≤ 16)
+        go : (b : Bool) → f .count ≡ cond b (f .t) 1 → 2 ≤ f .t → f .t ≤ 16 → (0 < f .count) × (f .count ≤ 16)
         go true e low high = omega arith
         go false e low high = omega arith
 
-    pub ranges-tested : (g : ℕ) (first later : Bool) → first ≡ leb 2 (getD (s .v) 0 0) && leb (getD (s .v) 0 0) (2 ^ 56) →
-        later ≡ allRanges (listed (λ i. getD (s .v) i 0) 1 (s .count - 1)) → not (first && later && leb g 256) ≡ outside s g
-    unfolding outside given
-    ranges-tested g first later a b =
-        let all = rw sub-zero at (range-then (λ i. getD (s .v) i 0) (s .count) 0 (count-within .0)) in
-        rw (← q, not-false (framedWell s due) w, all, a, b)
+    pub ranges-tested : (v : List ℕ) (g : ℕ) (first later : Bool) → first ≡ leb 2 (getD v 0 0) && leb (getD v 0 0) (2 ^ 56) →
+        later ≡ allRanges (listed (λ i. getD v i 0) 1 (f .count - 1)) → not (first && later && leb g 256) ≡ outside (framed f v) g
+    unfolding outside given frameOutside
+    ranges-tested v g first later a b =
+        let all = rw sub-zero at (range-then (λ i. getD v i 0) (f .count) 0 (count-within .0)) in
+        rw (not-false (framedWell f) w, all, a, b)

@@ -1,12 +1,13 @@
 // Documents 01, "Numbers that bound everything", and 02, §2 and §7: the bounds of a shape and of g.
 use code::Frame;
 ghost use mathlib.Core.Path.{_≡_};
-ghost use mathlib.Core.Bool.{_&&_};
+ghost use mathlib.Core.Bool.{false, _&&_};
 ghost use Prim.Native.Nat.{_-_, _^_, _<_, _≤_};
 ghost use lib.Dec.{leb};
 ghost use lib.ListN.{getD};
 ghost use Rattle.code.specs.Cells.{listed};
 ghost use Rattle.code.specs.Shape.{framed, rangesDue, allRanges, outside};
+ghost use Rattle.bounds.specs.Frames.{frameOutside};
 
 // The largest range.
 const V_MAX: u64 = 0x0100_0000_0000_0000;
@@ -40,15 +41,20 @@ fn later_ranges(v: &[u64; 16], count: usize) -> bool
     true
 }
 
-// Whether a shape in g groups is outside its bounds, which is refusal 1.
-pub fn outside(f: Frame, v: &[u64; 16], g: u64) -> bool
-    ensures { λ r. ⌜ r ≡ outside (framed f (now (v .entry))) g ⌝ }
+// Whether a shape is outside its bounds whatever its ranges are, which is refusal 1.
+pub fn frame_outside(f: Frame) -> bool
+    ensures { λ r. ⌜ r ≡ frameOutside f ⌝ }
 {
-    if !((f.form <= 2)
+    !((f.form <= 2)
         & ((2 <= f.m) & (f.m <= 4))
         & ((2 <= f.t) & (f.t <= 16))
-        & (f.count == ranges_due(f))) {
-        return true;
-    }
+        & (f.count == ranges_due(f)))
+}
+
+// The same by its ranges and g groups.
+pub fn ranges_outside(f: Frame, v: &[u64; 16], g: u64) -> bool
+    requires { ⌜ frameOutside f ≡ false ⌝ }
+    ensures { λ r. ⌜ r ≡ outside (framed f (now (v .entry))) g ⌝ }
+{
     !(is_range(v[0]) & later_ranges(v, f.count as usize) & (g <= 256))
 }

@@ -67,6 +67,12 @@ putting-more {o} {bs} {cs} {ds} {at} {i} {x} y T l e P =
     let t : x / 2 ^ (8 * (at + 8 - i)) ≡ y / 2 ^ 8 = rw (s, e) (sym (shr-shr x n 8)) in
     record { from = omega (arith, T .from); done = rw (q, r, ← e) (put-join {b = 8} (rw t at (T .done)) (rw (← p) at P)) }
 
+-- the first byte
+pub putting-first : {o : ℕ} {bs ds : List ℕ} {at x : ℕ} → x < 2 ^ 64 → PutWits o bs ds (8 * at) 8 (x / 2 ^ 56) → Putting o bs ds at (at + 1) x
+putting-first {o} {bs} {ds} {at} {x} h P =
+    let e : 8 * (at + 7 - at) ≡ 56 = omega arith in
+    putting-more (x / 2 ^ 56) (putting-none o bs at x h) (omega arith) (rw e) P
+
 -- the first bits of y and the first of x, as code has them
 fronts-joined : (x y n : ℕ) → x < 2 ^ 64 → y < 2 ^ 64 → n ≤ 64 → bitOr (y / 2 ^ n * 2 ^ n % 2 ^ 64) (x / 2 ^ (64 - n)) ≡ y / 2 ^ n * 2 ^ n + x / 2 ^ (64 - n)
 fronts-joined x y n hx hy l =

@@ -58,6 +58,10 @@ module _ (o : ℕ) (bs : List ℕ) where
         let none : value f (8 * end) k ≡ 0 = value-none f (8 * end) k (λ d a. wit-past o bs (8 * end + d) (omega (arith, z (omega arith)))) in
         rw (← p, value-split f (8 * at) j k, q, none, add-zero, ← v) (shl-exact {a = x} j k 64 (rw v (value-lt f (8 * at) j (wit-lt o bs))) (omega arith))
 
+  -- the first byte
+  pub reading-first : (at y : ℕ) → y ≡ octet o (getD bs at 0) → Reading at (at + 1) y
+  reading-first at y e = let p : 0 * 256 + y ≡ y = omega arith in rw p at (reading-more (reading-none at) y e)
+
 -- with the high bit first, four bytes
 pub quad : (bs : List ℕ) (i x y z w : ℕ) → Bytes bs → i + 4 ≤ length bs → x ≡ getD bs i 0 → y ≡ getD bs (i + 1) 0 → z ≡ getD bs (i + 2) 0
     → w ≡ getD bs (i + 3) 0

@@ -73,26 +73,24 @@ fn eight(cells: &[u8], i: usize) -> u64
     four(cells, i) * 4294967296 + four(cells, i + 4)
 }
 
-// The end of the eight bytes from byte `at` on, or of the cells.
-fn end_of(cells: &[u8], at: usize) -> usize
+// How many of the eight bytes from byte `at` on the cells have.
+fn bytes_ahead(cells: &[u8], at: usize) -> usize
     requires { ⌜ (at < length (now cells)) × (length (now cells) ≤ 128) ⌝ }
-    ensures { λ r. ⌜ Cells.End (length (now (cells .entry))) at r ⌝ }
+    ensures { λ r. ⌜ Cells.End (length (now (cells .entry))) at (at + r) ⌝ }
 {
-    if cells.len() < at + 8 {
-        cells.len()
-    } else {
-        at + 8
-    }
+    let left = cells.len() - at;
+    if left < 8 { left } else { 8 }
 }
 
-// The eight bytes from byte `at` on, as far as there are bytes, read one by one as a number; what is behind the last is 0.
+// The eight bytes from byte `at` on, as far as there are bytes, read one by one as a number; what is behind the last is 0. The first stands before the
+// loop, here and in put_part: one of at most seven rounds the compiler leaves as it is, and one of eight would be slower for a single byte.
 fn few_bytes(cells: &[u8], order: u64, at: usize) -> u64
     requires { ⌜ (at < length (now cells)) × (length (now cells) ≤ 128) ⌝ }
     ensures { λ r. ⌜ r ≡ Code.value (Code.wit order (now (cells .entry))) (8 * at) 64 ⌝ }
 {
-    let end = end_of(cells, at);
-    let mut x: u64 = 0;
-    let mut i = at;
+    let end = at + bytes_ahead(cells, at);
+    let mut x = octet(order, wide(cells[at]));
+    let mut i = at + 1;
     while i < end {
         x = x * 256 + octet(order, wide(cells[i]));
         i += 1;
@@ -219,8 +217,9 @@ fn put_part(cells: &mut [u8], order: u64, at: usize, x: u64)
     requires { ⌜ Cells.Roomy (now cells) at x ⌝ }
     ensures { λ r. ⌜ Cells.PutWits order (now (cells .entry)) (now (cells .exit)) (8 * at) 64 x ⌝ }
 {
-    let end = end_of(cells, at);
-    let mut i = at;
+    let end = at + bytes_ahead(cells, at);
+    put_one(cells, order, at, x >> 56);
+    let mut i = at + 1;
     while i < end {
         put_one(cells, order, i, x >> (8 * (at + 7 - i)));
         i += 1;

@@ -50,12 +50,3 @@ record-told bytes source head {f} {v} {reading = reading} {cells} e told q part 
     head .serial ∷ head .said .layout ∷ s .form ∷ s .m ∷ s .t ∷ getD (s .v) 0 0 ∷ head .start ∷ head .count ∷ [] in
     ap (λ l. 0 ∷ (l ++ reading)) told ∙ ap (λ l. 0 ∷ (numbers (framed f v) ++ l)) q
     ∙ ap (λ (s : Shape). 0 ∷ (numbers s ++ readReply s cells)) e ∙ ap (λ l. 0 ∷ (numbers said ++ readReply said l)) part
-
--- the same, of a shape that is read as a whole
-pub shape-told : (bytes : List ℕ) (source : Source) (head : Head) {f : Frame} {s : Shape} {r : Record} {reading cells : List ℕ} →
-    framed f (s .v) ≡ s → s ≡ saidShape source (head .said) →
-    toldNumbers r ≡ head .serial ∷ head .said .layout ∷ f .form ∷ f .m ∷ f .t ∷ getD (s .v) 0 0 ∷ head .start ∷ head .count ∷ [] →
-    reading ≡ readReply s cells → cells ≡ take (head .count) (drop (head .start) bytes) →
-    0 ∷ (toldNumbers r ++ reading) ≡ stepValues bytes (taken (headRecord source head))
-shape-told bytes source head {cells = cells} whole said told read part =
-    record-told bytes source head (whole ∙ said) told (read ∙ ap (λ s. readReply s cells) (sym whole)) part

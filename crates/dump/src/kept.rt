@@ -52,7 +52,28 @@ fn same_said(a: Said, b: Said) -> bool
     a.layout == b.layout
 }
 
-// The layout that a record says, worked out anew unless the record before said the same.
+// The layout that a record says, worked out.
+pub fn work_out(
+    dump: &[u8],
+    kind: Kind,
+    places: &[u16],
+    v: &mut [u64; 16],
+    h: &mut [u64; 16],
+    said: Said,
+) -> Kept
+    ensures { λ r. ⌜ (r .said ≡ said) × Keeps (sourceOf kind (now (dump .entry)) (now (places .entry))) r (now (v .exit)) (now (h .exit)) ⌝ }
+{
+    let shape = records::shape_said(dump, kind, places, said);
+    let frame = layout::frame(shape);
+    let ranges = shape.v;
+    *v = ranges;
+    *h = [0u64; 16];
+    let refusal = layout::lay_into(h, frame, v, 256);
+    let plan = Plan { frame, refusal };
+    Kept { said, plan }
+}
+
+// The same, but the kept one where the record before said that.
 pub fn renew(
     dump: &[u8],
     kind: Kind,
@@ -68,12 +89,5 @@ pub fn renew(
     if same_said(kept.said, said) {
         return kept;
     }
-    let shape = records::shape_said(dump, kind, places, said);
-    let frame = layout::frame(shape);
-    let ranges = shape.v;
-    *v = ranges;
-    *h = [0u64; 16];
-    let refusal = layout::lay_into(h, frame, v, 256);
-    let plan = Plan { frame, refusal };
-    Kept { said, plan }
+    work_out(dump, kind, places, v, h, said)
 }

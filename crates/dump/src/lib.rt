@@ -5,6 +5,7 @@ pub mod listed;
 use code::Frame;
 use code::Kind;
 use kept::Kept;
+use layout::Plan;
 use reading::Reading;
 use records::Head;
 use records::HeadThere;
@@ -14,9 +15,11 @@ ghost use mathlib.Core.List.{[], _∷_};
 ghost use Prim.Native.Nat.{_≤_};
 ghost use lib.ListN.{length};
 ghost use Rattle.code.specs.declared.Kind.the-variants.{New};
-ghost use Rattle.code.specs.Dump.{openReply, step, taken, stepValues, stepReply};
+ghost use Rattle.code.specs.Shape.{framed};
+ghost use Rattle.code.specs.Dump.{Source, openReply, step, taken, stepValues, stepReply};
+ghost use Rattle.layout.specs.Plan.{Planned};
 ghost use Rattle.records.specs.Source.{sourceOf};
-ghost use Rattle.records.specs.Head.{headRecord};
+ghost use Rattle.records.specs.Head.{saidShape, headRecord};
 ghost use Rattle.dump.specs.Kept.{Keeps};
 ghost use Rattle.dump.specs.Answers.{openedReply, locatedOf, toldNumbers, stepOf, Opens, Ready};
 
@@ -141,6 +144,18 @@ fn record_of(head: Head, frame: Frame, v: u64) -> Record
     }
 }
 
+// The step that gives a record whose layout is worked out.
+fn step_planned(dump: &[u8], plan: Plan, v: &[u64; 16], h: &[u64; 16], head: Head) -> Step
+    requires { ⌜ Planned plan (now v) (now h) ⌝ }
+    ensures { λ r.
+        ⌜ ((source : Source) → framed (plan .frame) (now (v .entry)) ≡ saidShape source (head .said)
+        → stepOf r ≡ stepValues (now (dump .entry)) (taken (headRecord source head))) ⌝ }
+{
+    let outcome = reading::read_by(plan, h, v, records::part(dump, head.start, head.count));
+    let record = record_of(head, plan.frame, v[0]);
+    Step::Record { record, outcome }
+}
+
 // The step at a place of a dump that is opened.
 fn step_in(dump: &[u8], kind: Kind, places: &[u16], at: usize) -> Step
     requires { ⌜ Ready kind (now dump) (now places) ⌝ }
@@ -148,11 +163,10 @@ fn step_in(dump: &[u8], kind: Kind, places: &[u16], at: usize) -> Step
 {
     match locate(dump, kind, places, at) {
         Located::Record(head) => {
-            let shape = records::shape_said(dump, kind, places, head.said);
-            let outcome = reading::read(shape, records::part(dump, head.start, head.count));
-            let v = shape.v;
-            let record = record_of(head, layout::frame(shape), v[0]);
-            Step::Record { record, outcome }
+            let mut v = [0u64; 16];
+            let mut h = [0u64; 16];
+            let made = kept::work_out(dump, kind, places, &mut v, &mut h, head.said);
+            step_planned(dump, made.plan, &v, &h, head)
         }
         Located::End => Step::End,
         Located::Stop(halt) => Step::Stop(halt),
@@ -191,10 +205,7 @@ fn step_record(
         ⌜ (stepOf (r .step) ≡ stepValues (now (dump .entry)) (taken (headRecord source head))) × Keeps source (r .kept) (now (v .exit)) (now (h .exit)) ⌝ }
 {
     let next = kept::renew(dump, kind, places, v, h, kept, head.said);
-    let plan = next.plan;
-    let outcome = reading::read_by(plan, h, v, records::part(dump, head.start, head.count));
-    let record = record_of(head, plan.frame, v[0]);
-    let step = Step::Record { record, outcome };
+    let step = step_planned(dump, next.plan, v, h, head);
     Stepped { step, kept: next }
 }
 

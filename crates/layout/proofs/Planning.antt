@@ -3,11 +3,16 @@ use mathlib.Core.Path.{_≡_}
 use mathlib.Core.List.{List, [], _∷_}
 use Prim.Native.Nat.{ℕ, _-_, _^_, _<_}
 use native.Mathlib.Omega.{arith}
+use mathlib.Core.Bool.{true}
+use lib.ListN.{replicate}
 use Rattle.code.specs.declared.Shape.{Shape}
-use Rattle.code.specs.Shape.{firstOf, rangesOf, countsOf, widthOf}
+use Rattle.code.specs.declared.Frame.{Frame}
+use Rattle.code.specs.Shape.{framed, firstOf, rangesOf, countsOf, widthOf}
 use Rattle.code.specs.Calls.{filled, layoutFields, layoutRefusal, layoutReply}
 use Rattle.code.proofs.Conditions.{holds-falls, head-most}
-use Rattle.code.proofs.LayoutCall.{bounded, fits, is-layout, counts-length, reply-number, reply-none, reply-counts, reply-count}
+use Rattle.code.proofs.LayoutCall.{bounded, fits, is-layout, counts-length, reply-number, reply-none, reply-outside, reply-counts, reply-count}
+use Rattle.bounds.specs.Frames.{frameOutside}
+use Rattle.bounds.proofs.Ranges.{outside-by-frame}
 use Rattle.layout.specs.Plan.{Granted}
 
 module _ (s : Shape) {k : ℕ} {h : List ℕ} (right : k ∷ h ≡ filled layoutFields (layoutReply s 256)) where
@@ -30,3 +35,7 @@ module _ (s : Shape) {k : ℕ} {h : List ℕ} (right : k ∷ h ≡ filled layout
         small = λ n. omega (arith, each n, fits s ok, head-most e e (firstOf s) (countsOf s) (rangesOf s) n (y .holds));
         some = omega (arith, each 0, holds-falls e e (firstOf s) (countsOf s) (rangesOf s) 0 (y .holds) (omega (arith, y .two)));
       }
+
+-- a frame out of bounds refuses the layout
+pub frame-refused : (f : Frame) (v : List ℕ) → frameOutside f ≡ true → 1 ∷ replicate 16 0 ≡ filled layoutFields (layoutReply (framed f v) 256)
+frame-refused f v w = reply-outside (framed f v) 256 (outside-by-frame f w v 256)

@@ -8,6 +8,7 @@ ghost use Prim.Native.Nat.{ℕ, _+_, _-_, _^_, _<_, _≤_};
 ghost use lib.ListN.{getD, replicate};
 ghost use Rattle.code.specs.Shape.{framed, firstOf, rangesOf, orderOf, outside, Bounds};
 ghost use Rattle.code.specs.Calls.{filled, layoutFields, layoutReply};
+ghost use Rattle.bounds.specs.Frames.{frameOutside};
 ghost use Rattle.counting.specs.Cap.{cap};
 ghost use Rattle.climbing.specs.Climb.{held, Least, Cut};
 ghost use Rattle.layout.specs.Tail.{Aimed, Behind};
@@ -176,15 +177,26 @@ fn grant(h: &mut [u64; 16], f: Frame, v: &[u64; 16], g: u64) -> u64
     0
 }
 
-// The refusal of a shape in g groups, 0 where its layout is granted; the counts go into h, which is lent as zeros.
+// The refusal of a shape in g groups whose frame is within its bounds, 0 where its layout is granted; the counts go into h, which is lent as zeros.
+pub fn lay_framed(h: &mut [u64; 16], f: Frame, v: &[u64; 16], g: u64) -> u64
+    requires { ⌜ (frameOutside f ≡ false) × (now h ≡ replicate 16 0) ⌝ }
+    ensures { λ r. ⌜ (r ∷ now (h .exit)) ≡ filled layoutFields (layoutReply (framed f (now (v .entry))) g) ⌝ }
+{
+    if bounds::ranges_outside(f, v, g) {
+        return 1;
+    }
+    grant(h, f, v, g)
+}
+
+// The same for any frame.
 pub fn lay_into(h: &mut [u64; 16], f: Frame, v: &[u64; 16], g: u64) -> u64
     requires { ⌜ now h ≡ replicate 16 0 ⌝ }
     ensures { λ r. ⌜ (r ∷ now (h .exit)) ≡ filled layoutFields (layoutReply (framed f (now (v .entry))) g) ⌝ }
 {
-    if bounds::outside(f, v, g) {
+    if bounds::frame_outside(f) {
         return 1;
     }
-    grant(h, f, v, g)
+    lay_framed(h, f, v, g)
 }
 
 // The layout of a shape in g groups, or why there is none.

@@ -67,28 +67,41 @@ before-told e b fewest next xs r d q =
 
 -- What is judged at a place whose marked groups are its places.
 module _ {s : Shape} {h : List ℕ} (G : Granted s h) (i : ℕ) (l : i < s .t) (xs : List ℕ) (many : length xs ≡ getD (countsOf s) i 0) where
-  pub judged-is : (e b fewest next x v : ℕ) (r : Field.Reading) → e ≡ 2 ^ s .m - 1 → b ≡ Field.base e i → fewest ≡ Field.fewest (firstOf s) i →
-      next ≡ getD h (suc i) 0 → v ≡ getD (rangesOf s) i 0 →
-      Close (Field.told e b fewest next xs) x → Ranged i v x r →
-      (gs : List ℕ) → Field.carriers (2 ^ s .m - 1) i gs ≡ xs → r ≡ judgedIn s gs i
-  judged-is e b fewest next x v r p q o n w C R gs c =
-      let f = 2 ^ s .m - 1 in
-      let y = Field.told f (Field.base f i) (Field.fewest (firstOf s) i) (getD (countsOf s) (suc i) 0) xs in
-      let same : Field.told e b fewest next xs ≡ y = rw (q, p, o, n, G .each (suc i)) in
+  pub judged-is : (fewest x v : ℕ) (r : Field.Reading) → fewest ≡ Field.fewest (firstOf s) i → v ≡ getD (rangesOf s) i 0 →
+      let e = 2 ^ s .m - 1 in
+      Close (Field.told e (Field.base e i) fewest (getD h (suc i) 0) xs) x → Ranged i v x r → (gs : List ℕ) → Field.carriers e i gs ≡ xs →
+      r ≡ judgedIn s gs i
+  judged-is fewest x v r o w C R gs c =
       elim (le-or-lt v x) [
         | inl beyond ↦
             R .outside beyond ∙ sym
-            (judged-beyond f (firstOf s) (countsOf s) (rangesOf s) gs xs i y c many refl (omega (arith, w, same, far beyond)))
+            (judged-beyond e (firstOf s) (countsOf s) (rangesOf s) gs xs i y c many refl (omega (arith, w, same, far beyond)))
         | inr inside ↦
-            let t : x ≡ Field.told e b fewest next xs = C .exact (omega (arith, w, high)) in
-            R .inside inside ∙ sym (judged-reads f (firstOf s) (countsOf s) (rangesOf s) gs xs i x c many (sym same ∙ sym t) (omega (arith, w)))
+            let t : x ≡ Field.told e (Field.base e i) fewest (getD h (suc i) 0) xs = C .exact (omega (arith, w, high)) in
+            R .inside inside ∙ sym (judged-reads e (firstOf s) (countsOf s) (rangesOf s) gs xs i x c many (sym same ∙ sym t) (omega (arith, w)))
       ]
     where
+      e : ℕ
+      e = 2 ^ s .m - 1
+
+      y : ℕ
+      y = Field.told e (Field.base e i) (Field.fewest (firstOf s) i) (getD (countsOf s) (suc i) 0) xs
+
+      same : Field.told e (Field.base e i) fewest (getD h (suc i) 0) xs ≡ y
+      same = rw (o, G .each (suc i))
+
       high : getD (rangesOf s) i 0 ≤ 2 ^ 56
       high = range-within s (G .bounds) i l .1
 
-      far : v ≤ x → v ≤ Field.told e b fewest next xs
+      far : v ≤ x → v ≤ Field.told e (Field.base e i) fewest (getD h (suc i) 0) xs
       far h = elim (le-or-lt (2 ^ 56) x) [ inl k ↦ omega (arith, C .large k, w, high) | inr k ↦ omega (arith, C .exact k) ]
+
+-- the marked groups of the words are the places of the generation at place i
+pub record Placed (s : Shape) (n i : ℕ) (words marks : List ℕ) : Type 0 where
+  pub pick : Pickable (s .m) n words marks
+  pub many : length (frontAt (s .m) n marks words) ≡ getD (countsOf s) i 0
+  pub blank : getD (countsOf s) (suc i) 0 ≤ Field.zeros (frontAt (s .m) n marks words)
+  pub held : Field.carriers (2 ^ s .m - 1) i (fieldGroups s n words) ≡ frontAt (s .m) n marks words
 
 -- The field's groups among those of the words: the groups behind them are erased.
 module _ {s : Shape} {h : List ℕ} (G : Granted s h) {n : ℕ} {words : List ℕ} (H : Holds s n words) where
@@ -105,7 +118,7 @@ module _ {s : Shape} {h : List ℕ} (G : Granted s h) {n : ℕ} {words : List �
   unfolding widthOf
   width = G .each 0
 
-  pub first-marked : {marks : List ℕ} → Fronted (s .m) n (getD h 0 0) marks →
+  first-marked : {marks : List ℕ} → Fronted (s .m) n (getD h 0 0) marks →
       (Pickable (s .m) n words marks) × (frontAt (s .m) n marks words ≡ fieldGroups s n words)
   first-marked {marks} F =
       let q : frontAt (s .m) n marks words ≡ fieldGroups s n words = F .held words (H .long) ∙ rw width in
@@ -137,11 +150,11 @@ module _ {s : Shape} {h : List ℕ} (G : Granted s h) {n : ℕ} {words : List �
           q ∙ sym (read-judged (2 ^ s .m - 1) (firstOf s) (countsOf s) (rangesOf s) (fieldGroups s n words) i (used-here d) past-here)
 
       -- the zero groups are at least as many as the next generation has places
-      pub zeros-left : getD (countsOf s) (suc i) 0 ≤ Field.zeros (fieldGroups s n words)
+      zeros-left : getD (countsOf s) (suc i) 0 ≤ Field.zeros (fieldGroups s n words)
       zeros-left = rw (sym past-here) (past-next (countsOf s) (Field.zeros (fieldGroups s n words)))
 
       module _ (later : i ≢ 0) where
-        pub carried : Field.carriers (2 ^ s .m - 1) i (fieldGroups s n words) ≡ frontAt (s .m) n marks words
+        carried : Field.carriers (2 ^ s .m - 1) i (fieldGroups s n words) ≡ frontAt (s .m) n marks words
         carried = carriers-later (2 ^ s .m - 1) i (fieldGroups s n words) later ∙ sym (W .held ∙ same-unerased)
           where
             carriers-later : (e i : ℕ) (gs : List ℕ) → i ≢ 0 → Field.carriers e i gs ≡ Field.unerased e gs
@@ -158,14 +171,31 @@ module _ {s : Shape} {h : List ℕ} (G : Granted s h) {n : ℕ} {words : List �
             (sym (judged-miscounted (2 ^ s .m - 1) (firstOf s) (countsOf s) (rangesOf s) (fieldGroups s n words) (frontAt (s .m) n marks words) i carried
             (λ q. wrong (many ∙ q ∙ sym (G .each i))))))
 
-        pub later-marked : seen .unerased ≡ getD h i 0 →
-            (Pickable (s .m) n words marks) × (length (frontAt (s .m) n marks words) ≡ getD (countsOf s) i 0)
-            × (getD (countsOf s) (suc i) 0 ≤ Field.zeros (frontAt (s .m) n marks words))
-        later-marked right = (
-          seen-pickable (s .m) n words marks (G .bounds .m-low) (G .bounds .m-high) (H .ends .few) (H .long) seen W (omega (arith, right, G .small i)),
-          sym many ∙ right ∙ G .each i,
-          rw (W .held, unerased-zeros (2 ^ s .m - 1) (frontGroups (s .m) n words) (omega (arith, full)), same-zeros) zeros-left,
-        )
+        later-placed : seen .unerased ≡ getD h i 0 → Placed s n i words marks
+        later-placed right = record {
+          pick = seen-pickable (s .m) n words marks (G .bounds .m-low) (G .bounds .m-high) (H .ends .few) (H .long) seen W (omega (arith, right, G .small i));
+          many = sym many ∙ right ∙ G .each i;
+          blank = rw (W .held, unerased-zeros (2 ^ s .m - 1) (frontGroups (s .m) n words) (omega (arith, full)), same-zeros) zeros-left;
+          held = carried;
+        }
+
+      first-placed : i ≡ 0 → {marked : List ℕ} → Fronted (s .m) n (getD h 0 0) marked → Placed s n i words marked
+      unfolding widthOf Field.carriers
+      first-placed z F =
+          let M = first-marked F in
+          record {
+            pick = M .0;
+            many = ap length (M .1) ∙ H .many ∙ rw z;
+            blank = rw (M .1) zeros-left;
+            held = rw (z, M .1);
+          }
+
+      pub placed : (i ≢ 0 → seen .unerased ≡ getD h i 0) → {marked : List ℕ} → (i ≡ 0 → Fronted (s .m) n (getD h 0 0) marked) →
+          (i ≢ 0 → marked ≡ marks) → Placed s n i words marked
+      placed right first later = elim (le-or-lt i 0) [
+        | inl z ↦ first-placed (omega arith) (first (omega arith))
+        | inr d ↦ let ne : i ≢ 0 = λ z. omega arith in rw (later ne) (later-placed ne (right ne))
+      ]
 
 -- Cells loaded into words, and the reply to what they read as.
 module _ {s : Shape} {h : List ℕ} (G : Granted s h) (bs : List ℕ) where

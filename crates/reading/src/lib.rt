@@ -1,22 +1,21 @@
 // Reading one field: document 01, "Reading", with the refusals in the table's order.
+pub mod telling;
+
 use code::Frame;
 use code::Shape;
 use layout::Plan;
 use words::Seen;
 ghost use mathlib.Core.Path.{_≡_};
-ghost use mathlib.Core.List.{List};
-ghost use Prim.Native.Nat.{ℕ, suc, _+_, _-_, _^_, _<_, _≤_};
-ghost use lib.ListN.{length, getD, take};
-ghost use Rattle.code.specs.Shape.{framed, firstOf, countsOf};
-ghost use Rattle.code.specs.Deal.{written, number, plain};
-ghost use Rattle.code.specs.Chosen.{patternMost};
+ghost use mathlib.Core.Logic.{_≢_};
+ghost use mathlib.Core.Bool.{true, false};
+ghost use Prim.Native.Nat.{_-_, _<_};
+ghost use lib.ListN.{length, getD};
+ghost use Rattle.code.specs.Shape.{framed};
 ghost use Rattle.code.specs.Field as Field;
 ghost use Rattle.code.specs.Calls.{filled, readFields, readReply};
-ghost use Rattle.counting.specs.Cap.{sat};
-ghost use Rattle.words.specs.Words.{frontAt};
-ghost use Rattle.words.specs.Marks.{Viewed, Pickable};
+ghost use Rattle.words.specs.Marks.{Ends, Fronted, Viewed};
 ghost use Rattle.layout.specs.Plan.{Planned, Granted};
-ghost use Rattle.reading.specs.Answers.{refusalOf, refusalFieldsOf, readFieldsOf, readingOf, foundOf, answerOf, judgedIn, readIn, SoundCells, fieldGroups, Holds, Looked, Close, Ranged};
+ghost use Rattle.reading.specs.Answers.{refusalOf, refusalFieldsOf, readFieldsOf, readingOf, foundOf, answerOf, readIn, SoundCells, fieldGroups, Holds, Looked, Ranged};
 
 // A refusal: its number alone, or 15 and 16 with what they carry.
 pub enum Refusal {
@@ -59,104 +58,6 @@ pub enum Found {
     Beyond { generation: u64 },
 }
 
-// The place of the generation that z zero groups point to.
-fn past(h: &[u64; 16], t: usize, z: u64) -> usize
-    requires { ⌜ (0 < t) × (t ≤ 16) × (length (take t (now h)) ≡ t) ⌝ }
-    ensures { λ r. ⌜ (r ≡ Field.past (take t (now (h .entry))) z) × (r < t) ⌝ }
-{
-    let mut n: usize = 0;
-    while n + 1 < t {
-        if h[n + 1] <= z {
-            return n;
-        }
-        n += 1;
-    }
-    n
-}
-
-// The count of the generation after place i, 0 after the last.
-pub fn next_count(h: &[u64; 16], i: usize) -> u64
-    requires { ⌜ (getD (now h) 16 0 ≡ 0) × (i < 16) ⌝ }
-    ensures { λ r. ⌜ r ≡ getD (now (h .entry)) (suc i) 0 ⌝ }
-{
-    if i == 15 {
-        return 0;
-    }
-    h[i + 1]
-}
-
-// The values that a written place takes at place i, and the least number of written places.
-pub fn base(e: u64, i: usize) -> u64
-    requires { ⌜ (3 ≤ e) × (e ≤ 15) ⌝ }
-    ensures { λ r. ⌜ (r ≡ Field.base e i) × (1 < r) × (r ≤ e) ⌝ }
-{
-    if i == 0 { e } else { e - 1 }
-}
-
-pub fn fewest(f: Frame, i: usize) -> u64
-    ensures { λ r. ⌜ ((v : List ℕ) → r ≡ Field.fewest (firstOf (framed f v)) i) × (r ≤ 1) ⌝ }
-{
-    if i == 0 { layout::first(f) } else { 1 }
-}
-
-// The number of a pattern in the marked groups.
-fn tell_pattern(
-    words: &[u64; 16],
-    marks: &[u64; 16],
-    n: usize,
-    m: usize,
-    places: u64,
-    b: u64,
-    fewest: u64,
-) -> u64
-    requires { ⌜ (Pickable m n (now words) (now marks)) × (places ≡ length (frontAt m n (now marks) (now words))) × (written (frontAt m n (now marks) (now words)) ≤ patternMost) × (1 < b) × (b ≤ 15) × (fewest ≤ 1) ⌝ }
-    ensures { λ r. ⌜ r ≡ sat (number b fewest (frontAt m n (now (marks .entry)) (now (words .entry)))) ⌝ }
-{
-    let mut labels = [0u8; 64];
-    let mut values = [0u8; 64];
-    let k = words::gather(words, marks, n, m, places, &mut labels, &mut values);
-    dealing::number(&labels, &values, k, places, b, fewest)
-}
-
-// The number that the marked groups make as digits.
-fn tell_digits(words: &[u64; 16], marks: &[u64; 16], n: usize, m: usize, e: u64) -> u64
-    requires { ⌜ (Pickable m n (now words) (now marks)) × (length (frontAt m n (now marks) (now words)) ≤ patternMost) × (0 < e) × (e ≤ 15) ⌝ }
-    ensures { λ r. ⌜ r ≡ sat (plain e (frontAt m n (now (marks .entry)) (now (words .entry)))) ⌝ }
-{
-    let mut values = [0u8; 64];
-    let k = words::pick(words, marks, n, m, &mut values);
-    dealing::plain(&values, k, e)
-}
-
-fn less_one(x: u64) -> u64
-    ensures { λ r. ⌜ r ≡ x - 1 ⌝ }
-{
-    if x == 0 { 0 } else { x - 1 }
-}
-
-// The number that the places of a generation tell; `next` is the count of the generation after it, 0 for the last.
-fn tell(
-    words: &[u64; 16],
-    marks: &[u64; 16],
-    n: usize,
-    m: usize,
-    places: u64,
-    e: u64,
-    b: u64,
-    fewest: u64,
-    next: u64,
-) -> u64
-    requires { ⌜ (Pickable m n (now words) (now marks)) × (places ≡ length (frontAt m n (now marks) (now words))) ⌝ }
-    requires { ⌜ (0 < e) × (e ≤ 15) × (1 < b) × (b ≤ 15) × (fewest ≤ 1) ⌝ }
-    requires { ⌜ (places ≤ next + patternMost) × (next ≤ Field.zeros (frontAt m n (now marks) (now words))) ⌝ }
-    ensures { λ r. ⌜ Close (Field.told e b fewest next (frontAt m n (now (marks .entry)) (now (words .entry)))) r ⌝ }
-{
-    if next == 0 {
-        return less_one(tell_digits(words, marks, n, m, e));
-    }
-    tell_pattern(words, marks, n, m, places, b, fewest)
-}
-
 // The reading of the number x at place i, where it is in range.
 fn ranged(i: usize, v: u64, x: u64) -> Found
     requires { ⌜ i < 16 ⌝ }
@@ -172,51 +73,26 @@ fn ranged(i: usize, v: u64, x: u64) -> Found
     }
 }
 
-// What groups read as at place i whose marked ones are its places, as many as it has.
-fn judge_at(
-    h: &[u64; 16],
-    f: Frame,
-    v: &[u64; 16],
-    words: &[u64; 16],
-    marks: &[u64; 16],
-    n: usize,
-    i: usize,
-) -> Found
-    requires { ⌜ (Granted (framed f (now v)) (now h)) × (i < f .t) × (Pickable (f .m) n (now words) (now marks)) ⌝ }
-    requires { ⌜ (length (frontAt (f .m) n (now marks) (now words)) ≡ getD (countsOf (framed f (now v))) i 0) × (getD (countsOf (framed f (now v))) (suc i) 0 ≤ Field.zeros (frontAt (f .m) n (now marks) (now words))) ⌝ }
-    ensures { λ r. ⌜ ((gs : List ℕ) → Field.carriers (2 ^ f .m - 1) i gs ≡ frontAt (f .m) n (now (marks .entry)) (now (words .entry)) → foundOf r ≡ judgedIn (framed f (now (v .entry))) gs i) ⌝ }
+// Behind the first generation there are other unerased groups than place i has.
+fn is_miscounted(h: &[u64; 16], i: usize, unerased: u64) -> bool
+    requires { ⌜ i < 16 ⌝ }
+    ensures { λ r. ⌜ (r ≡ true → (i ≢ 0) × (unerased ≢ getD (now (h .entry)) i 0)) × (r ≡ false → i ≢ 0 → unerased ≡ getD (now (h .entry)) i 0) ⌝ }
 {
-    let e = layout::all_ones(f.m);
-    let next = next_count(h, i);
-    let x = tell(
-        words,
-        marks,
-        n,
-        f.m as usize,
-        h[i],
-        e,
-        base(e, i),
-        fewest(f, i),
-        next,
-    );
-    ranged(i, layout::range_at(f, v, i), x)
+    if i == 0 {
+        return false;
+    }
+    unerased != h[i]
 }
 
-// Generation 1: all groups of the field are its places.
-fn judge_first(
-    h: &[u64; 16],
-    f: Frame,
-    v: &[u64; 16],
-    words: &[u64; 16],
-    n: usize,
-    marks: &mut [u64; 16],
-) -> Found
-    requires { ⌜ (Granted (framed f (now v)) (now h)) × (Holds (framed f (now v)) n (now words)) × (length (now marks) ≡ 16) × (getD (countsOf (framed f (now v))) 1 0 ≤ Field.zeros (fieldGroups (framed f (now v)) n (now words))) ⌝ }
-    ensures { λ r. ⌜ foundOf r ≡ judgedIn (framed f (now (v .entry))) (fieldGroups (framed f (now (v .entry))) n (now (words .entry))) 0 ⌝ }
+// Marks the places of generation 1, which are all groups of the field; those of the others are marked already.
+fn mark_places(h: &[u64; 16], m: u64, n: usize, i: usize, marks: &mut [u64; 16])
+    requires { ⌜ (Ends m n (getD (now h) 0 0)) × (length (now marks) ≡ 16) ⌝ }
+    ensures { λ _. ⌜ (i ≡ 0 → Fronted m n (getD (now (h .entry)) 0 0) (now (marks .exit))) × (i ≢ 0 → now (marks .exit) ≡ now (marks .entry)) ⌝ }
     ensures { λ _. ⌜ length (now (marks .exit)) ≡ 16 ⌝ }
 {
-    words::mark_all(n, f.m as usize, h[0] as usize, marks);
-    judge_at(h, f, v, words, marks, n, 0)
+    if i == 0 {
+        words::mark_all(n, m as usize, h[0] as usize, marks);
+    }
 }
 
 // What the field's groups in words read as, of which is seen how many are zero and which are not erased.
@@ -236,17 +112,16 @@ fn judge(
     if seen.zeros == h[0] {
         return Found::Blank;
     }
-    let i = past(h, f.t as usize, seen.zeros);
-    if i == 0 {
-        return judge_first(h, f, v, words, n, marks);
-    }
-    if seen.unerased != h[i] {
+    let i = telling::past(h, f.t as usize, seen.zeros);
+    if is_miscounted(h, i, seen.unerased) {
         return Found::Miscounted {
             generation: i as u64 + 1,
             unerased: seen.unerased,
         };
     }
-    judge_at(h, f, v, words, marks, n, i)
+    mark_places(h, f.m, n, i, marks);
+    let x = telling::number_at(h, f.m, telling::fewest(f, i), words, marks, n, i);
+    ranged(i, layout::range_at(f, v, i), x)
 }
 
 // The writes left of t after generation i.
@@ -352,10 +227,14 @@ pub fn read_by(plan: Plan, h: &[u64; 16], v: &[u64; 16], cells: &[u8]) -> Readin
 pub fn read(s: Shape, cells: &[u8]) -> Reading
     ensures { λ r. ⌜ readingOf r ≡ readReply s (now (cells .entry)) ⌝ }
 {
-    let mut h = [0u64; 16];
     let f = layout::frame(s);
+    // Before the counts are cleared, so that a refusal costs little.
+    if bounds::frame_outside(f) {
+        return Reading::Refused(Refusal::Plain(1));
+    }
+    let mut h = [0u64; 16];
     let v = s.v;
-    let refusal = layout::lay_into(&mut h, f, &v, 256);
+    let refusal = layout::lay_framed(&mut h, f, &v, 256);
     if refusal != 0 {
         return Reading::Refused(Refusal::Plain(refusal));
     }

@@ -16,7 +16,7 @@ use Rattle.words.proofs.Packed.{packed, packed-lt, groups-packed}
 use mathlib.Core.Logic.{inl, inr}
 use lib.Count.{ones}
 use lib.Pow.{pow-mono}
-use lib.Seq.{getD-set-same, getD-set-other, set-getD}
+use lib.Seq.{getD-set-same, getD-set-other}
 use Rattle.code.specs.Lists.{Upto}
 use Rattle.words.specs.Words.{groupsOf, allGroups, wordBytes, wordGroups, frontGroups}
 use Rattle.words.proofs.Sizes.{word-fits}
@@ -220,7 +220,7 @@ pub record Wiping (m spare : ℕ) (before : List ℕ) (i left : ℕ) (ws os : Li
   pub made : frontGroups m i ws ≡ erase (2 ^ m - 1) spare (frontGroups m i before)
   pub same : (j : ℕ) → i ≤ j → getD ws j 0 ≡ getD before j 0
 
-pub zero-none : (m : ℕ) (ws os : List ℕ) → 2 ≤ m → m ≤ 4 → length ws ≡ 16 → length os ≡ 16 → ZeroMarked m 0 ws os
+zero-none : (m : ℕ) (ws os : List ℕ) → 2 ≤ m → m ≤ 4 → length ws ≡ 16 → length os ≡ 16 → ZeroMarked m 0 ws os
 zero-none m ws os hm lm l r =
     record { wide = hm; narrow = lm; few = omega arith; long = l; room = r; tidy = λ j h. absurd (omega arith); marked = λ j h. absurd (omega arith) }
 
@@ -267,8 +267,3 @@ wiping-more {m} {spare} {before} {i} {left} {ws} {os} w z o y C h ew ez W ey =
 
 pub wiping-all : {m spare : ℕ} {before : List ℕ} {i left : ℕ} {ws os : List ℕ} → Wiping m spare before i left ws os → Erased m i spare before ws os
 wiping-all C = record { ready = C .ready; made = C .made }
-
--- a word as it is, and its zero marks
-pub zero-next : {m i : ℕ} {ws os : List ℕ} (o : ℕ) → ZeroMarked m i ws os → i < 16 → getD ws i 0 < 2 ^ (8 * wordBytes m)
-    → o ≡ wordMarks m zeroGroup (getD ws i 0) → ZeroMarked m (i + 1) ws (set os i o)
-zero-next {m} {i} {ws} {os} o C h l e = rw (set-getD ws i 0) at (zero-more (getD ws i 0) o C h l e)

@@ -216,6 +216,12 @@ module _ {m n : ℕ} {ws os : List ℕ} (P : Pickable m n ws os) where
     unfolding rest
     gathering-right = (omega (arith, ones-here, right-here), omega (arith, ones-here, right-here))
 
+    -- the last word has all places that are left
+    pub gathering-last : n ≤ i + 1 → right ≡ ones (getD os i 0)
+    gathering-last l =
+        let none : length (backAt m n (i + 1) os ws) ≡ 0 = ap length (pick-none P (i + 1) l) in
+        omega (arith, gathering-right .0, gathering-right .1, none)
+
     module _ (w o r : ℕ) (ew : w ≡ getD ws i 0) (eo : o ≡ getD os i 0) (er : r ≡ length (backAt m n (i + 1) os ws)) where
       written-here : Written m w rest (labelIn r o) (wordGroups m) o (writtenMarks m o w)
       unfolding rest

@@ -16,7 +16,7 @@ use bits::wide;
 use bits::word_bits;
 use bits::zero_marks;
 ghost use mathlib.Core.Path.{_≡_};
-ghost use Prim.Native.Nat.{_+_, _-_, _^_, _≤_};
+ghost use Prim.Native.Nat.{_+_, _-_, _^_, _≤_, _<_};
 ghost use lib.ListN.{length, take, drop};
 ghost use lib.Count as Count;
 ghost use Rattle.code.specs.Chosen.{patternMost};
@@ -139,6 +139,17 @@ fn gather_word(
     i
 }
 
+// The places behind word i of n, of those from it on. Behind the last there is none, which saves a count.
+fn places_behind(places: u64, marks: u64, i: usize, n: usize) -> u64
+    requires { ⌜ (i < n) × (n ≤ 16) × (Count.ones marks ≤ places) × (n ≤ i + 1 → places ≡ Count.ones marks) ⌝ }
+    ensures { λ r. ⌜ r ≡ places - Count.ones marks ⌝ }
+{
+    if i + 1 == n {
+        return 0;
+    }
+    places - ones(marks)
+}
+
 // The marked groups of the first n words that are not zero, by label and value less 1, leftmost first; says how many.
 pub fn gather(
     words: &[u64; 16],
@@ -160,7 +171,7 @@ pub fn gather(
     let mut i = 0;
     while i < n {
         let o = marks[i];
-        right -= ones(o);
+        right = places_behind(right, o, i, n);
         k = gather_word(words[i], o, m, low, right, labels, values, k);
         i += 1;
     }
@@ -208,19 +219,6 @@ pub fn erase(words: &mut [u64; 16], n: usize, m: usize, spare: u64, marks: &mut 
         words[i] = (low - o) * e;
         marks[i] = o;
         left = s.spare;
-        i += 1;
-    }
-}
-
-// Marks the zero groups of the first n words, as these are.
-pub fn mark_zeros(words: &[u64; 16], n: usize, m: usize, marks: &mut [u64; 16])
-    requires { ⌜ (2 ≤ m) × (m ≤ 4) × (n ≤ 16) × (length (now words) ≡ 16) × (length (now marks) ≡ 16) × Words.Tidy m n (now words) ⌝ }
-    ensures { λ r. ⌜ Marks.ZeroMarked m n (now (words .entry)) (now (marks .exit)) ⌝ }
-{
-    let low = low_bits(m);
-    let mut i = 0;
-    while i < n {
-        marks[i] = zero_marks(m, low, words[i]);
         i += 1;
     }
 }

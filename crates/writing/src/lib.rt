@@ -151,7 +151,7 @@ fn erase_and_lay(
     let e = layout::all_ones(f.m);
     let places = h[i];
     words::erase(words, n, m, z - places, marks);
-    let next = reading::next_count(h, i);
+    let next = reading::telling::next_count(h, i);
     lay_number(
         words,
         marks,
@@ -159,8 +159,8 @@ fn erase_and_lay(
         m,
         places,
         e,
-        reading::base(e, i),
-        reading::fewest(f, i),
+        reading::telling::base(e, i),
+        reading::telling::fewest(f, i),
         next,
         x,
     );
@@ -241,10 +241,13 @@ pub fn write_granted(h: &[u64; 16], f: Frame, v: &[u64; 16], cells: &mut [u8], x
 pub fn write(s: Shape, cells: &mut [u8], x: u64) -> Writing
     ensures { λ r. ⌜ (writingOf r ≡ writeReply s x (now (cells .entry))) × (now (cells .exit) ≡ writeLeaves s x (now (cells .entry))) ⌝ }
 {
-    let mut h = [0u64; 16];
     let f = layout::frame(s);
+    if bounds::frame_outside(f) {
+        return Writing::Refused(Refusal::Plain(1));
+    }
+    let mut h = [0u64; 16];
     let v = s.v;
-    let refusal = layout::lay_into(&mut h, f, &v, 256);
+    let refusal = layout::lay_framed(&mut h, f, &v, 256);
     if refusal != 0 {
         return Writing::Refused(Refusal::Plain(refusal));
     }

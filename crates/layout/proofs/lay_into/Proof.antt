@@ -1,10 +1,9 @@
 -- `layout::lay_into` meets its contract. Assumes nothing.
-use mathlib.Core.Path.{_≡_, sym, _∙_}
-use mathlib.Core.Bool.{false}
+use mathlib.Core.Path.{sym, _∙_}
 use borrow.Author.Needs.{needs}
 use denote.Ref.{now}
-use Rattle.code.specs.Shape.{framed, outside}
-use Rattle.code.proofs.LayoutCall.{outside-within, reply-outside}
+use Rattle.code.proofs.LayoutCall.{reply-outside}
+use Rattle.bounds.proofs.Ranges.{outside-by-frame}
 use Rattle.layout.proofs.lay_into.Statement.{statement}
 use Rattle.layout.proofs.lay_into.Tie as tie
 
@@ -12,19 +11,14 @@ pub lay-into-spec : {M : Type 1} → statement M
 lay-into-spec =
     tie.close
     (tie.spec
-    -- outside-requires
+    -- frame-outside-requires
     (λ c κs. search needs)
     -- returns
     (λ c.
     let o = c .before in
-    rw (o .before .pre) (reply-outside _ _ (sym (o .outside .ensures) ∙ c .if1 .taken)))
-    -- grant-requires
-    (λ c κs.
-    let o = c .before .before in
-    let a = o .before .args in
-    let s = framed (a .f) (now (a .v)) in
-    let inside : outside s (a .g) ≡ false = sym (o .outside .ensures) ∙ c .before .if1 .left in
-    let w = outside-within s (a .g) inside in
-    ((w .bounds, w .g-high), (inside, o .before .pre)))
+    let a = o .before in
+    rw (a .pre) (reply-outside _ _ (outside-by-frame _ (sym (o .frame-outside .ensures) ∙ c .if1 .taken) (now (a .args .v)) _)))
+    -- lay-framed-requires
+    (λ c κs. let o = c .before .before in (sym (o .frame-outside .ensures) ∙ c .before .if1 .left, o .before .pre))
     -- returns-2
-    (λ c. c .grant .ensures))
+    (λ c. c .lay-framed .ensures))

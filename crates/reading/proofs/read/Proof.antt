@@ -1,6 +1,8 @@
 -- `reading::read` meets its contract. Assumes nothing.
+use mathlib.Core.Path.{sym, _∙_}
+use native.Mathlib.Omega.{arith}
 use borrow.Author.Needs.{needs}
-use Rattle.layout.proofs.Planning.{plan-granted}
+use Rattle.layout.proofs.Planning.{plan-granted, frame-refused}
 use Rattle.reading.proofs.Judging.{reads-refused}
 use Rattle.reading.proofs.read.Statement.{statement}
 use Rattle.reading.proofs.read.Tie as tie
@@ -11,11 +13,19 @@ read-spec =
     (tie.spec
     -- frame-requires
     (λ c κs. search needs)
-    -- lay-into-requires
+    -- frame-outside-requires
     (λ c κs. search needs)
     -- returns
-    (λ c. reads-refused _ _ (rw (c .before .before .before .before .before .frame .ensures) at (c .before .lay-into .ensures)) (c .if1 .taken))
-    -- read-granted-requires
-    (λ c κs. plan-granted _ (c .before .before .before .lay-into .ensures) (c .before .before .if1 .left))
+    (λ c.
+    let F = c .before in
+    let a = F .before .before .before .args in
+    let wrong = frame-refused (F .before .frame .result) (a .s .v) (sym (F .frame-outside .ensures) ∙ c .if1 .taken) in
+    reads-refused _ _ (rw (F .before .frame .ensures) at wrong) (λ z. omega arith))
+    -- lay-framed-requires
+    (λ c κs. (sym (c .before .before .before .before .frame-outside .ensures) ∙ c .before .before .before .if1 .left, search needs))
     -- returns-2
-    (λ c. rw (c .before .before .before .before .before .before .before .before .frame .ensures) at (c .read-granted .ensures)))
+    (λ c. reads-refused _ _ (rw (c .before .before .before .before .before .before .before .frame .ensures) at (c .before .lay-framed .ensures)) (c .if2 .taken))
+    -- read-granted-requires
+    (λ c κs. plan-granted _ (c .before .before .before .lay-framed .ensures) (c .before .before .if2 .left))
+    -- returns-3
+    (λ c. rw (c .before .before .before .before .before .before .before .before .before .before .frame .ensures) at (c .read-granted .ensures)))

@@ -1,7 +1,7 @@
 -- `words::gather` meets its contract. Assumes nothing.
-use Prim.Native.Nat.{ℕ, _-_, _≤_, _<_}
-use Rattle.words.proofs.Gathering.{Gathering, gathering-none, gathering-all, gathering-right, gathering-left, gathering-few, gathering-more}
-use mathlib.Core.Path.{refl, ap, _∙_}
+use Prim.Native.Nat.{_-_, _≤_, _<_}
+use Rattle.words.proofs.Gathering.{Gathering, gathering-none, gathering-all, gathering-right, gathering-last, gathering-left, gathering-few, gathering-more}
+use mathlib.Core.Path.{refl, _∙_}
 use native.Mathlib.Omega.{arith}
 use borrow.Author.Needs.{needs}
 use Rattle.words.proofs.gather.Statement.{statement}
@@ -24,11 +24,12 @@ gather-spec =
     (λ c. (omega arith, gathering-none (c .before .pre .0 .0) _ _ _ (c .before .pre .0 .1) (c .before .pre .1 .1 .0) (c .before .pre .1 .1 .1)))
     (λ c. search needs)
     (λ c. search needs)
-    (λ c κs. search needs)
-    -- sub-right
-    (λ c.
-    let right = gathering-right (c .before .before .before .before .before .pre .0 .0) (omega arith) (c .before .before .before .loop .inv .1) in
-    omega (arith, c .ones .ensures .0))
+    -- places-behind-requires
+    (λ c κs.
+    let a = c .before .before .before .before in
+    let l = c .before .before .loop in
+    let h : l .i < a .args .n = omega arith in
+    (omega arith, a .pre .0 .0 .few, gathering-right (a .pre .0 .0) h (l .inv .1) .0, gathering-last (a .pre .0 .0) h (l .inv .1)))
     (λ c. search needs)
     (λ c. search needs)
     -- gather-word-requires
@@ -37,7 +38,7 @@ gather-spec =
     let p = pre .0 .0 in
     let l = c .before .before .before .before .before .before .loop in
     let h : l .i < c .before .before .before .before .before .before .before .before .args .n = omega arith in
-    let e = ap (λ (x : ℕ). l .right - x) (c .before .before .before .ones .ensures .0) ∙ gathering-right p h (l .inv .1) .1 in (
+    let e = c .before .before .before .«places-behind» .ensures ∙ gathering-right p h (l .inv .1) .1 in (
       (p .wide, p .narrow, c .before .before .before .before .before .before .before .«low-bits» .ensures, gathering-left p h (l .inv .1) _ _ _ refl refl e),
       (gathering-few p h (l .inv .1) _ _ _ refl refl e (pre .1 .0), l .inv .1 .places .long, l .inv .1 .marks .long),
     ))
@@ -48,7 +49,7 @@ gather-spec =
     let p = c .before .before .before .before .before .before .before .before .before .pre .0 .0 in
     let l = c .before .before .before .before .before .before .before .loop in
     let h : l .i < c .before .before .before .before .before .before .before .before .before .args .n = omega arith in
-    let e = ap (λ (x : ℕ). l .right - x) (c .before .before .before .before .ones .ensures .0) ∙ gathering-right p h (l .inv .1) .1 in
+    let e = c .before .before .before .before .«places-behind» .ensures ∙ gathering-right p h (l .inv .1) .1 in
     (omega arith, gathering-more p h (l .inv .1) _ _ _ refl refl e _ _ _ (c .«gather-word» .ensures .0) (c .«gather-word» .ensures .1)))
     -- returns
     (λ c. gathering-all (c .before .before .before .pre .0 .0) (omega arith) (c .before .loop .inv .1)))

@@ -1,8 +1,8 @@
--- `reading::tell_digits` meets its contract. Assumes nothing.
+-- `reading::telling::tell_digits` meets its contract. Assumes nothing.
 use borrow.Author.Needs.{needs}
 use Rattle.reading.proofs.Judging.{digits-told}
-use Rattle.reading.proofs.tell_digits.Statement.{statement}
-use Rattle.reading.proofs.tell_digits.Tie as tie
+use Rattle.reading.proofs.telling.tell_digits.Statement.{statement}
+use Rattle.reading.proofs.telling.tell_digits.Tie as tie
 
 pub tell-digits-spec : {M : Type 1} → statement M
 tell-digits-spec =

@@ -1,9 +1,9 @@
--- `reading::base` meets its contract: the definition, at each place. Assumes nothing.
+-- `reading::telling::base` meets its contract: the definition, at each place. Assumes nothing.
 use native.Mathlib.Omega.{arith}
 use borrow.Author.Needs.{needs}
 use Rattle.reading.proofs.Laws.{base-first, base-later}
-use Rattle.reading.proofs.base.Statement.{statement}
-use Rattle.reading.proofs.base.Tie as tie
+use Rattle.reading.proofs.telling.base.Statement.{statement}
+use Rattle.reading.proofs.telling.base.Tie as tie
 
 pub base-spec : {M : Type 1} → statement M
 base-spec =

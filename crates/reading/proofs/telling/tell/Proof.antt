@@ -1,9 +1,9 @@
--- `reading::tell` meets its contract. Assumes nothing.
+-- `reading::telling::tell` meets its contract. Assumes nothing.
 use native.Mathlib.Omega.{arith}
 use borrow.Author.Needs.{needs}
 use Rattle.reading.proofs.Judging.{written-few, last-told, before-told}
-use Rattle.reading.proofs.tell.Statement.{statement}
-use Rattle.reading.proofs.tell.Tie as tie
+use Rattle.reading.proofs.telling.tell.Statement.{statement}
+use Rattle.reading.proofs.telling.tell.Tie as tie
 
 pub tell-spec : {M : Type 1} → statement M
 tell-spec =

@@ -1,9 +1,9 @@
--- `reading::tell_pattern` meets its contract. Assumes nothing.
+-- `reading::telling::tell_pattern` meets its contract. Assumes nothing.
 use native.Mathlib.Omega.{arith}
 use borrow.Author.Needs.{needs}
 use Rattle.reading.proofs.Judging.{pattern-told, gathered-few}
-use Rattle.reading.proofs.tell_pattern.Statement.{statement}
-use Rattle.reading.proofs.tell_pattern.Tie as tie
+use Rattle.reading.proofs.telling.tell_pattern.Statement.{statement}
+use Rattle.reading.proofs.telling.tell_pattern.Tie as tie
 
 pub tell-pattern-spec : {M : Type 1} → statement M
 tell-pattern-spec =

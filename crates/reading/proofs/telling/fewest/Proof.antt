@@ -1,10 +1,10 @@
--- `reading::fewest` meets its contract: the definition, at each place. Assumes nothing.
+-- `reading::telling::fewest` meets its contract: the definition, at each place. Assumes nothing.
 use mathlib.Core.Path.{_∙_}
 use native.Mathlib.Omega.{arith}
 use borrow.Author.Needs.{needs}
 use Rattle.reading.proofs.Laws.{fewest-first, fewest-later}
-use Rattle.reading.proofs.fewest.Statement.{statement}
-use Rattle.reading.proofs.fewest.Tie as tie
+use Rattle.reading.proofs.telling.fewest.Statement.{statement}
+use Rattle.reading.proofs.telling.fewest.Tie as tie
 
 pub fewest-spec : {M : Type 1} → statement M
 fewest-spec =

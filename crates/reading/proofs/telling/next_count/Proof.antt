@@ -1,9 +1,9 @@
--- `reading::next_count` meets its contract. Assumes nothing.
+-- `reading::telling::next_count` meets its contract. Assumes nothing.
 use mathlib.Core.Path.{sym}
 use native.Mathlib.Numerals.{add-one}
 use borrow.Author.Needs.{needs}
-use Rattle.reading.proofs.next_count.Statement.{statement}
-use Rattle.reading.proofs.next_count.Tie as tie
+use Rattle.reading.proofs.telling.next_count.Statement.{statement}
+use Rattle.reading.proofs.telling.next_count.Tie as tie
 
 pub next-count-spec : {M : Type 1} → statement M
 next-count-spec =
