@@ -149,7 +149,9 @@ fn one_more(term: u64, b: u64, s: u64, j: u64) -> u64
 // The sum with the term at j + 1, of one whose last is at j. At the cap the term no longer counts.
 fn add_next(b: u64, s: u64, j: u64, p: Partial) -> Partial
     requires { ⌜ (0 < b) × (b ≤ 15) × (s ≤ 256) × (j < s) × (p .sum < cap) × (p .term ≤ p .sum) × (p .term ≡ choose s j * b ^ j) ⌝ }
-    ensures { λ r. ⌜ (cap ≤ r .sum → cap ≤ p .sum + choose s (suc j) * b ^ suc j) × (r .sum < cap → r .sum ≡ p .sum + r .term) × (r .sum < cap → r .term ≡ choose s (suc j) * b ^ suc j) ⌝ }
+    ensures { λ r.
+        let next = choose s (suc j) * b ^ suc j in
+        ⌜ (cap ≤ r .sum → cap ≤ p .sum + next) × (r .sum < cap → r .sum ≡ p .sum + r .term) × (r .sum < cap → r .term ≡ next) ⌝ }
 {
     let q = one_more(p.term, b, s, j);
     if CAP <= q {

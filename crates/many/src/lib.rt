@@ -73,7 +73,9 @@ fn write_one(
 ) -> Writing
     requires { ⌜ (Granted (framed f (now v)) (now h)) × (at + size ≤ length (now cells)) ⌝ }
     ensures { λ r. ⌜ writingOf r ≡ writeReply (framed f (now (v .entry))) x (take size (drop at (now (cells .entry)))) ⌝ }
-    ensures { λ r. ⌜ now (cells .exit) ≡ take at (now (cells .entry)) ++ (writeLeaves (framed f (now (v .entry))) x (take size (drop at (now (cells .entry)))) ++ drop size (drop at (now (cells .entry)))) ⌝ }
+    ensures { λ r.
+        let before = now (cells .entry) in
+        ⌜ now (cells .exit) ≡ take at before ++ (writeLeaves (framed f (now (v .entry))) x (take size (drop at before)) ++ drop size (drop at before)) ⌝ }
 {
     writing::write_granted(h, f, v, &mut cells[at..at + size], x)
 }
@@ -88,9 +90,12 @@ fn write_fields(
     numbers: &[u64],
     rows: &mut [u16; 128],
 ) -> End
-    requires { ⌜ (Granted (framed f (now v)) (now h)) × (size ≡ fieldBytes (framed f (now v))) × (length (now numbers) ≤ 64) × (length (now cells) ≡ length (now numbers) * size) ⌝ }
+    requires { let s = framed f (now v) in
+        ⌜ (Granted s (now h)) × (size ≡ fieldBytes s) × (length (now numbers) ≤ 64) × (length (now cells) ≡ length (now numbers) * size) ⌝ }
     requires { ⌜ now rows ≡ replicate 128 0 ⌝ }
-    ensures { λ r. ⌜ (endOf r ∷ take 64 (now (rows .exit)) ∷ drop 64 (now (rows .exit)) ∷ []) ≡ manyTold (manyReplies (framed f (now (v .entry))) (now (numbers .entry)) (now (cells .entry))) ⌝ }
+    ensures { λ r.
+        let replies = manyReplies (framed f (now (v .entry))) (now (numbers .entry)) (now (cells .entry)) in
+        ⌜ (endOf r ∷ take 64 (now (rows .exit)) ∷ drop 64 (now (rows .exit)) ∷ []) ≡ manyTold replies ⌝ }
     ensures { λ r. ⌜ now (cells .exit) ≡ manyCells (framed f (now (v .entry))) (now (numbers .entry)) (now (cells .entry)) ⌝ }
 {
     let mut j = 0;

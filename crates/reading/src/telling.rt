@@ -63,7 +63,8 @@ fn tell_pattern(
     b: u64,
     fewest: u64,
 ) -> u64
-    requires { ⌜ (Pickable m n (now words) (now marks)) × (places ≡ length (frontAt m n (now marks) (now words))) × (written (frontAt m n (now marks) (now words)) ≤ patternMost) × (1 < b) × (b ≤ 15) × (fewest ≤ 1) ⌝ }
+    requires { let xs = frontAt m n (now marks) (now words) in
+        ⌜ (Pickable m n (now words) (now marks)) × (places ≡ length xs) × (written xs ≤ patternMost) × (1 < b) × (b ≤ 15) × (fewest ≤ 1) ⌝ }
     ensures { λ r. ⌜ r ≡ sat (number b fewest (frontAt m n (now (marks .entry)) (now (words .entry)))) ⌝ }
 {
     let mut labels = [0u8; 64];

@@ -145,7 +145,9 @@ fn erase_and_lay(
 )
     requires { ⌜ (Granted (framed f (now v)) (now h)) × (i < f .t) × (x < getD (rangesOf (framed f (now v))) i 0) × (length (now marks) ≡ 16) ⌝ }
     requires { ⌜ (Holds (framed f (now v)) n (now words)) × (Ready (framed f (now v)) i z (fieldGroups (framed f (now v)) n (now words))) ⌝ }
-    ensures { λ _. ⌜ Carries (framed f (now (v .entry))) n (afterIn (framed f (now (v .entry))) i x (fieldGroups (framed f (now (v .entry))) n (now (words .entry)))) (now (words .exit)) ⌝ }
+    ensures { λ _.
+        let s = framed f (now (v .entry)) in
+        ⌜ Carries s n (afterIn s i x (fieldGroups s n (now (words .entry)))) (now (words .exit)) ⌝ }
 {
     let m = f.m as usize;
     let e = layout::all_ones(f.m);
@@ -180,8 +182,11 @@ fn write_at(
     cells: &mut [u8],
 ) -> u64
     requires { ⌜ (Granted (framed f (now v)) (now h)) × (i < f .t) × (x < getD (rangesOf (framed f (now v))) i 0) × (length (now marks) ≡ 16) ⌝ }
-    requires { ⌜ (Holds (framed f (now v)) n (now words)) × (Ready (framed f (now v)) i z (fieldGroups (framed f (now v)) n (now words))) × (SoundCells (framed f (now v)) (now cells)) ⌝ }
-    ensures { λ r. ⌜ Stored (orderOf (framed f (now (v .entry)))) (f .m) (afterIn (framed f (now (v .entry))) i x (fieldGroups (framed f (now (v .entry))) n (now (words .entry)))) (now (cells .entry)) (now (cells .exit)) r ⌝ }
+    requires { let s = framed f (now v) in
+        ⌜ (Holds s n (now words)) × (Ready s i z (fieldGroups s n (now words))) × (SoundCells s (now cells)) ⌝ }
+    ensures { λ r.
+        let s = framed f (now (v .entry)) in
+        ⌜ Stored (orderOf s) (f .m) (afterIn s i x (fieldGroups s n (now (words .entry)))) (now (cells .entry)) (now (cells .exit)) r ⌝ }
 {
     erase_and_lay(h, f, v, i, x, z, words, n, marks);
     cells::store(cells, layout::order(f), f.m as usize, h[0] as usize, words)
@@ -190,7 +195,9 @@ fn write_at(
 // The write on sound cells of a number that passed the fourth test: the refusals from 15 on, with the range of the generation that takes it as the last.
 fn write_sound(h: &[u64; 16], f: Frame, v: &[u64; 16], cells: &mut [u8], x: u64) -> Writing
     requires { ⌜ (Granted (framed f (now v)) (now h)) × (overRange (framed f (now v)) x ≡ false) × (SoundCells (framed f (now v)) (now cells)) ⌝ }
-    ensures { λ r. ⌜ (writingOf r ≡ writeReply (framed f (now (v .entry))) x (now (cells .entry))) × (now (cells .exit) ≡ writeLeaves (framed f (now (v .entry))) x (now (cells .entry))) ⌝ }
+    ensures { λ r.
+        let s = framed f (now (v .entry)) in
+        ⌜ (writingOf r ≡ writeReply s x (now (cells .entry))) × (now (cells .exit) ≡ writeLeaves s x (now (cells .entry))) ⌝ }
 {
     let mut words = [0u64; 16];
     let mut marks = [0u64; 16];
@@ -226,7 +233,9 @@ fn write_sound(h: &[u64; 16], f: Frame, v: &[u64; 16], cells: &mut [u8], x: u64)
 // The write on a field whose layout is granted.
 pub fn write_granted(h: &[u64; 16], f: Frame, v: &[u64; 16], cells: &mut [u8], x: u64) -> Writing
     requires { ⌜ Granted (framed f (now v)) (now h) ⌝ }
-    ensures { λ r. ⌜ (writingOf r ≡ writeReply (framed f (now (v .entry))) x (now (cells .entry))) × (now (cells .exit) ≡ writeLeaves (framed f (now (v .entry))) x (now (cells .entry))) ⌝ }
+    ensures { λ r.
+        let s = framed f (now (v .entry)) in
+        ⌜ (writingOf r ≡ writeReply s x (now (cells .entry))) × (now (cells .exit) ≡ writeLeaves s x (now (cells .entry))) ⌝ }
 {
     if !cells::is_sound(cells, layout::order(f), f.m as usize, h[0] as usize) {
         return Writing::Refused(Refusal::Plain(3));

@@ -21,7 +21,9 @@ loop-holds c =
     (omega (arith, E .some), E, reading-first _ _ _ _ (cc))
 
 add-x : tie.Need-add-x Inv-loop μ-loop
-add-x c = record { fits = omega (arith, reading-fits _ _ (c .before .before .before .before .loop .inv .2) (omega (arith, c .before .before .before .before .loop .inv .1 .near))) }
+add-x c =
+    let I = c .before .before .before .before .loop .inv in
+    record { fits = omega (arith, reading-fits _ _ (I .2) (omega (arith, I .1 .near))) }
 
 returns : tie.Need-returns Inv-loop μ-loop
 returns c =

@@ -30,4 +30,7 @@ write-spec =
     -- same-length
     (λ c. search needs)
     -- returns-3
-    (λ c. let w = c .before .before in rw (w .before .before .before .before .before .before .before .before .before .before .before .frame .ensures) at (w .write-granted .ensures)))
+    (λ c.
+    let w = c .before .before in
+    let l = w .before .before .before .before in
+    rw (l .before .before .before .before .before .before .before .frame .ensures) at (w .write-granted .ensures)))
