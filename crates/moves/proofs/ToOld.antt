@@ -1,6 +1,6 @@
 -- What moving to old makes of the records of a new dump.
-use Prim.Native.Nat.{ℕ, suc, _+_, _≤_, _<_}
-use mathlib.Core.Path.{_≡_, refl, ap}
+use Prim.Native.Nat.{ℕ, suc, _+_, _^_, _≤_, _<_}
+use mathlib.Core.Path.{_≡_, refl, ap, subst, _∙_}
 use mathlib.Core.Bool.{true, false}
 use mathlib.Core.List.{List, [], _∷_}
 use native.Mathlib.Omega.{arith}
@@ -10,11 +10,18 @@ use lib.Seq.{drop-cons}
 use borrow.Author.Tests.{eq-eqb, ne-eqb}
 use Rattle.code.specs.declared.Kind.the-variants.{New}
 use Rattle.code.specs.declared.Shape.{Shape}
-use Rattle.code.specs.LayoutList.{Listed, listedShape, layoutList}
-use Rattle.code.specs.Dump.{Record, recordOf, ownLayouts, cellsOf, walk}
+use Rattle.code.specs.Shape.{shaped}
+use Rattle.code.specs.LayoutList.{Listed, unlisted, listedShape, layoutList}
+use Rattle.code.specs.Dump.{Record, Source, listedMany, recordOf, ownLayouts, cellsOf, walk}
 use Rattle.code.specs.NewDump.{entryHead, stopOf, listedIn, foreign, toOld, toOldRefusal, toOldReply, toOldLeaves}
 use Rattle.code.proofs.FirstUse.{records-numbered}
-use Rattle.records.specs.Source.{layoutAt, layoutsAt}
+use Rattle.records.specs.declared.Said.{Said}
+use Rattle.records.specs.declared.Head.{Head}
+use Rattle.records.specs.Source.{layoutAt, layoutsAt, sourceOf}
+use Rattle.records.specs.Head.{saidShape, headRecord}
+use Rattle.storing.specs.Put.{Put}
+use Rattle.dump.proofs.Keeping.{none-said}
+use Rattle.moves.specs.Kept.{saidHead, SaysOld}
 use Rattle.moves.specs.Passes.{Begins, entriesIn, saidBy, oldHead}
 use Rattle.moves.proofs.Heads.{list-opened}
 use Rattle.moves.proofs.Storing.{movedAt}
@@ -27,6 +34,40 @@ old-said bytes = records-numbered (entriesIn New bytes) []
 pub old-at : (ls : List Listed) (bytes : List ℕ) (r : Record) → recordOf (oldHead r) (cellsOf bytes r) ≡ movedAt ownLayouts ls bytes r
 unfolding entryHead
 old-at ls bytes r = refl
+
+-- a number that no list has
+pub none-says : (source : Source) → listedMany source < 2 ^ 64 → SaysOld source (record { layout = 0xFFFFFFFFFFFFFFFF; m = 0; t = 0; v = 0 })
+none-says source h =
+    let none : shaped 0 0 0 ≡ saidShape source (record { layout = 0xFFFFFFFFFFFFFFFF; m = 0; t = 0; v = 0 }) = none-said source h in
+    record { same-m = ap (λ (s : Shape). s .m) none; same-t = ap (λ (s : Shape). s .t) none; same-v = ap (λ (s : Shape). getD (s .v) 0 0) none }
+
+-- what stands in the list under a number
+module _ (bytes places : List ℕ) where
+  -- a new dump's layout goes by its number alone
+  by-number : (a b : Said) → a .layout ≡ b .layout → saidShape (sourceOf New bytes places) a ≡ saidShape (sourceOf New bytes places) b
+  unfolding sourceOf saidShape
+  by-number a b e = ap (λ n. listedShape (getD (layoutsAt bytes places) n unlisted)) e
+
+  pub says-old : {s : Shape} (said : Said) → s ≡ saidShape (sourceOf New bytes places) said →
+      SaysOld (sourceOf New bytes places) (record { layout = said .layout; m = s .m; t = s .t; v = getD (s .v) 0 0 })
+  says-old {s} said e =
+      let k : Said = record { layout = said .layout; m = s .m; t = s .t; v = getD (s .v) 0 0 } in
+      let q : s ≡ saidShape (sourceOf New bytes places) k = e ∙ by-number said k refl in
+      record { same-m = ap (λ (x : Shape). x .m) q; same-t = ap (λ (x : Shape). x .t) q; same-v = ap (λ (x : Shape). getD (x .v) 0 0) q }
+
+  pub old-head : (head : Head) (k : Said) → SaysOld (sourceOf New bytes places) k → k .layout ≡ head .said .layout →
+      saidHead (head .serial) k ≡ oldHead (headRecord (sourceOf New bytes places) head)
+  old-head head k K e =
+      let q = by-number k (head .said) e in
+      let s = saidShape (sourceOf New bytes places) (head .said) in
+      let m : k .m ≡ s .m = K .same-m ∙ ap (λ (x : Shape). x .m) q in
+      let t : k .t ≡ s .t = K .same-t ∙ ap (λ (x : Shape). x .t) q in
+      let v : k .v ≡ getD (s .v) 0 0 = K .same-v ∙ ap (λ (x : Shape). getD (x .v) 0 0) q in
+      rw (m, t, v)
+
+pub put-same : {before after xs ys : List ℕ} (cells : List ℕ) {place r : ℕ} → xs ≡ ys → Put before after place (recordOf xs cells) r →
+    Put before after place (recordOf ys cells) r
+put-same {before} {after} cells {place} {r} e p = subst (λ n. Put before after place (recordOf n cells) r) e p
 
 -- the layouts from place i on, one by one
 module _ (bytes places : List ℕ) (i : ℕ) (h : i < length places) where

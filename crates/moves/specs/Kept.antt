@@ -1,10 +1,13 @@
--- Document 02, §3 (RULES 9): layouts that a move to new keeps by their numbers: form, m, t, v of each, one after the other.
+-- Document 02, §3 (RULES 9): layouts that a move to new keeps by their numbers: form, m, t, v of each, one after the other; and the one that a move
+-- to old keeps from record to record.
 use Prim.Native.Nat.{ℕ, zero, suc, _+_, _*_, _≤_, _<_}
 use mathlib.Core.Path.{_≡_}
 use mathlib.Core.List.{List, [], _∷_, _++_}
 use lib.ListN.{length, getD}
 use Rattle.code.specs.LayoutList.{Listed}
+use Rattle.code.specs.Dump.{Source}
 use Rattle.records.specs.declared.Said.{Said}
+use Rattle.records.specs.Head.{saidShape}
 
 -- the layout at a place
 unfoldable pub keptAt : List ℕ → ℕ → Listed
@@ -25,3 +28,13 @@ pub record Keeps (count : ℕ) (xs : List ℕ) (ls : List Listed) : Type 0 where
   pub few : count ≤ 65
   pub same : count ≤ 64 → ls ≡ keptLayouts count xs
   pub over : 64 < count → 64 < length ls
+
+-- "serial, m, t, v": the numbers before n of a record of an old dump, by what it says of its layout
+abbrev pub saidHead : ℕ → Said → List ℕ
+saidHead serial k = serial ∷ k .m ∷ k .t ∷ k .v ∷ []
+
+-- what is said stands for the layout that has its number, up to the first range
+pub record SaysOld (source : Source) (k : Said) : Type 0 where
+  pub same-m : k .m ≡ saidShape source k .m
+  pub same-t : k .t ≡ saidShape source k .t
+  pub same-v : k .v ≡ getD (saidShape source k .v) 0 0

@@ -4,19 +4,20 @@ use code::Kind;
 use dump::Halt;
 use dump::Located;
 use records::Head;
+use records::Said;
 ghost use mathlib.Core.Path.{_≡_};
 ghost use mathlib.Core.List.{List, []};
 ghost use Prim.Native.Nat.{ℕ, _+_, _^_, _≤_, _<_};
 ghost use lib.ListN.{length};
 ghost use Rattle.code.specs.declared.Kind.the-variants.{New};
 ghost use Rattle.code.specs.Lists.{Below};
-ghost use Rattle.code.specs.Dump.{recordOf, walk};
+ghost use Rattle.code.specs.Dump.{Source, listedMany, recordOf, walk};
 ghost use Rattle.code.specs.NewDump.{stopOf, foreign, toOld, toOldReply, toOldLeaves};
 ghost use Rattle.storing.specs.Put.{Put};
 ghost use Rattle.records.specs.Source.{layoutsAt, sourceOf};
-ghost use Rattle.records.specs.Head.{headRecord};
 ghost use Rattle.moves.specs.Answers.{movedOf};
-ghost use Rattle.moves.specs.Passes.{Begins, oldHead, cellsAt, Measures};
+ghost use Rattle.moves.specs.Kept.{saidHead, SaysOld};
+ghost use Rattle.moves.specs.Passes.{Begins, cellsAt, Measures};
 
 // What the first pass comes to: the length of all records moved, or why the walk stops.
 pub enum Measured {
@@ -24,30 +25,43 @@ pub enum Measured {
     Stopped(Halt),
 }
 
-// The numbers before n of a record of an old dump.
-struct OldHead {
-    numbers: [u64; 4],
+// What is kept before the first record: a number that no list has, and what stands for it.
+fn keep_none() -> Said
+    ensures { λ r. ⌜ ((source : Source) → listedMany source < 2 ^ 64 → SaysOld source r) ⌝ }
+{
+    Said {
+        layout: 0xFFFF_FFFF_FFFF_FFFF,
+        m: 0,
+        t: 0,
+        v: 0,
+    }
 }
 
-// Those of a record with the numbers of its layout, up to the first range: no other form than 0 moves, and that has one.
-fn old_head(dump: &[u8], places: &[u16], head: Head) -> OldHead
-    ensures { λ r. ⌜ r .numbers ≡ oldHead (headRecord (sourceOf New (now (dump .entry)) (now (places .entry))) head) ⌝ }
+// The layout that a record says by its number, as records of an old dump say it, up to the first range: no other form than 0 moves, and that has one.
+// It is read in the list where the record before said another.
+fn renew(dump: &[u8], places: &[u16], kept: Said, said: Said) -> Said
+    requires { ⌜ SaysOld (sourceOf New (now dump) (now places)) kept ⌝ }
+    ensures { λ r. ⌜ (r .layout ≡ said .layout) × SaysOld (sourceOf New (now (dump .entry)) (now (places .entry))) r ⌝ }
 {
-    let shape = records::shape_said(dump, Kind::New, places, head.said);
+    if kept.layout == said.layout {
+        return kept;
+    }
+    let shape = records::shape_said(dump, Kind::New, places, said);
     let v = shape.v;
-    let numbers = [head.serial, shape.m, shape.t, v[0]];
-    OldHead { numbers }
+    Said {
+        layout: said.layout,
+        m: shape.m,
+        t: shape.t,
+        v: v[0],
+    }
 }
 
-// The length of a record with the numbers of its layout.
-fn old_length(dump: &[u8], places: &[u16], head: Head) -> usize
-    requires { ⌜ Below (2 ^ 63) (oldHead (headRecord (sourceOf New (now dump) (now places)) head)) × (head .count < 2 ^ 63) ⌝ }
-    ensures { λ r.
-        let numbers = oldHead (headRecord (sourceOf New (now (dump .entry)) (now (places .entry))) head) in
-        ⌜ ((cells : List ℕ) → length cells ≡ head .count → r ≡ length (recordOf numbers cells)) ⌝ }
+// The length of a record with what its layout says.
+fn old_length(head: Head, said: Said) -> usize
+    requires { ⌜ Below (2 ^ 63) (saidHead (head .serial) said) × (head .count < 2 ^ 63) ⌝ }
+    ensures { λ r. ⌜ ((cells : List ℕ) → length cells ≡ head .count → r ≡ length (recordOf (saidHead (head .serial) said) cells)) ⌝ }
 {
-    let old = old_head(dump, places, head);
-    let numbers = old.numbers;
+    let numbers = [head.serial, said.m, said.t, said.v];
     records::record_length(&numbers, head.count)
 }
 
@@ -58,10 +72,12 @@ fn measure(dump: &[u8], places: &[u16], start: usize) -> Measured
 {
     let mut at = start;
     let mut total = 0;
+    let mut kept = keep_none();
     loop {
         match dump::locate(dump, Kind::New, places, at) {
             Located::Record(head) => {
-                total += old_length(dump, places, head);
+                kept = renew(dump, places, kept, head.said);
+                total += old_length(head, kept);
                 at = head.start + head.count;
             }
             Located::End => {
@@ -89,16 +105,13 @@ fn has_foreign(dump: &[u8], places: &[u16]) -> bool
     false
 }
 
-// Stores a record with the numbers of its layout at a place of `out`.
-fn put_old(dump: &[u8], places: &[u16], head: Head, out: &mut [u8], place: usize) -> usize
-    requires { ⌜ Below (2 ^ 63) (oldHead (headRecord (sourceOf New (now dump) (now places)) head)) ⌝ }
-    requires { ⌜ place + length (recordOf (oldHead (headRecord (sourceOf New (now dump) (now places)) head)) (cellsAt (now dump) head)) ≤ length (now out) ⌝ }
-    ensures { λ r.
-        let numbers = oldHead (headRecord (sourceOf New (now (dump .entry)) (now (places .entry))) head) in
-        ⌜ Put (now (out .entry)) (now (out .exit)) place (recordOf numbers (cellsAt (now (dump .entry)) head)) r ⌝ }
+// Stores a record with what its layout says at a place of `out`.
+fn put_old(dump: &[u8], head: Head, said: Said, out: &mut [u8], place: usize) -> usize
+    requires { ⌜ Below (2 ^ 63) (saidHead (head .serial) said) ⌝ }
+    requires { ⌜ place + length (recordOf (saidHead (head .serial) said) (cellsAt (now dump) head)) ≤ length (now out) ⌝ }
+    ensures { λ r. ⌜ Put (now (out .entry)) (now (out .exit)) place (recordOf (saidHead (head .serial) said) (cellsAt (now (dump .entry)) head)) r ⌝ }
 {
-    let old = old_head(dump, places, head);
-    let numbers = old.numbers;
+    let numbers = [head.serial, said.m, said.t, said.v];
     crate::put_moved(dump, head, &numbers, out, place)
 }
 
@@ -110,10 +123,12 @@ fn put_records(dump: &[u8], places: &[u16], start: usize, out: &mut [u8]) -> usi
 {
     let mut at = start;
     let mut place = 0;
+    let mut kept = keep_none();
     loop {
         match dump::locate(dump, Kind::New, places, at) {
             Located::Record(head) => {
-                place = put_old(dump, places, head, out, place);
+                kept = renew(dump, places, kept, head.said);
+                place = put_old(dump, head, kept, out, place);
                 at = head.start + head.count;
             }
             Located::End => {

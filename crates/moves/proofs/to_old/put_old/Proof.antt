@@ -7,10 +7,11 @@ pub put-old-spec : {M : Type 1} → statement M
 put-old-spec =
     tie.close
     (tie.spec
-    (λ c κs. search needs)
+    -- slice-aggregate-put-moved
     (λ c. search needs)
     -- put-moved-requires
-    (λ c κs. let s = c .before .before .before .before .before .before .before in rw (c .before .before .before .old-head .ensures) (s .pre))
+    (λ c κs. search needs)
+    -- same-length
     (λ c. search needs)
     -- returns
-    (λ c. rw (c .before .before .before .before .before .before .old-head .ensures) at (c .before .before .put-moved .ensures)))
+    (λ c. c .before .before .put-moved .ensures))
