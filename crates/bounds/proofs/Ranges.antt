@@ -13,7 +13,7 @@ use Rattle.code.specs.declared.Frame.{Frame}
 use Rattle.code.specs.Cells.{listed}
 use Rattle.code.specs.Shape.{framed, rangesDue, given, allRanges, outside}
 use Rattle.code.proofs.Tests.{both-true}
-use Rattle.bounds.specs.Frames.{frameOutside}
+use Rattle.bounds.specs.Frames.{frameWithin, frameOutside}
 
 module _ (f : ℕ → ℕ) (n i : ℕ) where
   module _ (l : i < n) where
@@ -33,14 +33,10 @@ module _ (f : ℕ → ℕ) (n i : ℕ) where
   unfolding allRanges listed
   ranges-end l = let q : n - i ≡ 0 = omega arith in rw q
 
--- the form, m and t within their bounds, and as many ranges as are due
-abbrev framedWell : Frame → Bool
-framedWell f = leb (f .form) 2 && (leb 2 (f .m) && leb (f .m) 4) && (leb 2 (f .t) && leb (f .t) 16) && eqb (f .count) (rangesDue (f .form) (f .t))
-
 module _ (f : Frame) where
   pub outside-by-frame : frameOutside f ≡ true → (v : List ℕ) (g : ℕ) → outside (framed f v) g ≡ true
   unfolding outside frameOutside
-  outside-by-frame w v g = rw (not-true (framedWell f) w)
+  outside-by-frame w v g = rw (not-true (frameWithin f) w)
 
   module _ (w : frameOutside f ≡ false) where
     pub count-within : (0 < f .count) × (f .count ≤ 16)
@@ -49,7 +45,7 @@ module _ (f : Frame) where
         let m = leb (f .form) 2 && (leb 2 (f .m) && leb (f .m) 4) in
         let t = leb 2 (f .t) && leb (f .t) 16 in
         let due = rangesDue (f .form) (f .t) in
-        let a = both-true (m && t) (eqb (f .count) due) (not-false (framedWell f) w) in
+        let a = both-true (m && t) (eqb (f .count) due) (not-false (frameWithin f) w) in
         let b = both-true (leb 2 (f .t)) (leb (f .t) 16) (both-true m t (a .0) .1) in
         go (eqb (f .form) 2) (eqb-true (f .count) due (a .1)) (leb-true 2 (f .t) (b .0)) (leb-true (f .t) 16 (b .1))
       where
@@ -62,4 +58,4 @@ module _ (f : Frame) where
     unfolding outside given frameOutside
     ranges-tested v g first later a b =
         let all = rw sub-zero at (range-then (λ i. getD v i 0) (f .count) 0 (count-within .0)) in
-        rw (not-false (framedWell f) w, all, a, b)
+        rw (not-false (frameWithin f) w, all, a, b)

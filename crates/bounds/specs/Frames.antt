@@ -4,7 +4,10 @@ use lib.Dec.{leb, eqb}
 use Rattle.code.specs.declared.Frame.{Frame}
 use Rattle.code.specs.Shape.{rangesDue}
 
--- RULES 1: the form, m or t is out of bounds, or the ranges are not as many as are due
+-- RULES 1: the form, m and t are within their bounds, and the ranges are as many as are due
+abbrev pub frameWithin : Frame → Bool
+frameWithin f = leb (f .form) 2 && (leb 2 (f .m) && leb (f .m) 4) && (leb 2 (f .t) && leb (f .t) 16) && eqb (f .count) (rangesDue (f .form) (f .t))
+
+-- RULES 1: they are not, so that a shape is outside its bounds whatever its ranges are
 unfoldable pub frameOutside : Frame → Bool
-frameOutside f =
-    not (leb (f .form) 2 && (leb 2 (f .m) && leb (f .m) 4) && (leb 2 (f .t) && leb (f .t) 16) && eqb (f .count) (rangesDue (f .form) (f .t)))
+frameOutside f = not (frameWithin f)

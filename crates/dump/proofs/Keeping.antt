@@ -16,6 +16,7 @@ use Rattle.code.proofs.LayoutCall.{reply-outside}
 use Rattle.records.specs.declared.Said.{Said}
 use Rattle.records.specs.declared.Head.{Head}
 use Rattle.records.specs.Head.{saidShape, headRecord}
+use Rattle.dump.specs.Kept.{noneSaid}
 use Rattle.dump.specs.Answers.{toldNumbers}
 use Rattle.dump.specs.declared.Record.{Record}
 
@@ -25,7 +26,7 @@ unfolding outside
 zeros-refused = reply-outside (shaped 0 0 0) 256 refl
 
 -- it is what a number says that no list has
-pub none-said : (source : Source) → listedMany source < 2 ^ 64 → shaped 0 0 0 ≡ saidShape source (record { layout = 0xFFFFFFFFFFFFFFFF; m = 0; t = 0; v = 0 })
+pub none-said : (source : Source) → listedMany source < 2 ^ 64 → shaped 0 0 0 ≡ saidShape source noneSaid
 unfolding saidShape listedShape filled
 none-said ownLayouts h = refl
 none-said (listedLayouts ls) h = rw (List·getD-eq-default ls unlisted {n = 0xFFFFFFFFFFFFFFFF} (omega arith))

@@ -9,7 +9,7 @@ ghost use Prim.Native.Nat.{_^_, _<_};
 ghost use lib.ListN.{replicate};
 ghost use Rattle.code.specs.Dump.{Source, listedMany};
 ghost use Rattle.records.specs.Source.{sourceOf};
-ghost use Rattle.dump.specs.Kept.{Keeps};
+ghost use Rattle.dump.specs.Kept.{noneSaid, Keeps};
 
 // The layout of the last record: what that said of it, and its plan. Its ranges and counts stand in arrays beside it.
 pub struct Kept {
@@ -17,16 +17,22 @@ pub struct Kept {
     pub plan: Plan,
 }
 
-// What is kept before the first record, with no ranges and no counts: a number that no list has, and the refusal of a shape of zeros.
-pub fn keep_none() -> Kept
-    ensures { λ r. ⌜ ((source : Source) → listedMany source < 2 ^ 64 → Keeps source r (replicate 16 0) (replicate 16 0)) ⌝ }
+// What is said before the first record: a number that no list has.
+pub fn say_none() -> Said
+    ensures { λ r. ⌜ r ≡ noneSaid ⌝ }
 {
-    let said = Said {
+    Said {
         layout: 0xFFFF_FFFF_FFFF_FFFF,
         m: 0,
         t: 0,
         v: 0,
-    };
+    }
+}
+
+// What is kept before it, with no ranges and no counts: that number, and the refusal of a shape of zeros.
+pub fn keep_none() -> Kept
+    ensures { λ r. ⌜ ((source : Source) → listedMany source < 2 ^ 64 → Keeps source r (replicate 16 0) (replicate 16 0)) ⌝ }
+{
     let frame = Frame {
         form: 0,
         m: 0,
@@ -34,7 +40,10 @@ pub fn keep_none() -> Kept
         count: 1,
     };
     let plan = Plan { frame, refusal: 1 };
-    Kept { said, plan }
+    Kept {
+        said: say_none(),
+        plan,
+    }
 }
 
 fn same_said(a: Said, b: Said) -> bool

@@ -20,6 +20,7 @@ use Rattle.records.specs.declared.Head.{Head}
 use Rattle.records.specs.Source.{layoutAt, layoutsAt, sourceOf}
 use Rattle.records.specs.Head.{saidShape, headRecord}
 use Rattle.storing.specs.Put.{Put}
+use Rattle.dump.specs.Kept.{noneSaid}
 use Rattle.dump.proofs.Keeping.{none-said}
 use Rattle.moves.specs.Kept.{saidHead, SaysOld}
 use Rattle.moves.specs.Passes.{Begins, entriesIn, saidBy, oldHead}
@@ -36,9 +37,9 @@ unfolding entryHead
 old-at ls bytes r = refl
 
 -- a number that no list has
-pub none-says : (source : Source) → listedMany source < 2 ^ 64 → SaysOld source (record { layout = 0xFFFFFFFFFFFFFFFF; m = 0; t = 0; v = 0 })
+pub none-says : (source : Source) → listedMany source < 2 ^ 64 → SaysOld source noneSaid
 none-says source h =
-    let none : shaped 0 0 0 ≡ saidShape source (record { layout = 0xFFFFFFFFFFFFFFFF; m = 0; t = 0; v = 0 }) = none-said source h in
+    let none : shaped 0 0 0 ≡ saidShape source noneSaid = none-said source h in
     record { same-m = ap (λ (s : Shape). s .m) none; same-t = ap (λ (s : Shape). s .t) none; same-v = ap (λ (s : Shape). getD (s .v) 0 0) none }
 
 -- what stands in the list under a number

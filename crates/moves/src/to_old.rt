@@ -11,7 +11,7 @@ ghost use Prim.Native.Nat.{ℕ, _+_, _^_, _≤_, _<_};
 ghost use lib.ListN.{length};
 ghost use Rattle.code.specs.declared.Kind.the-variants.{New};
 ghost use Rattle.code.specs.Lists.{Below};
-ghost use Rattle.code.specs.Dump.{Source, listedMany, recordOf, walk};
+ghost use Rattle.code.specs.Dump.{recordOf, walk};
 ghost use Rattle.code.specs.NewDump.{stopOf, foreign, toOld, toOldReply, toOldLeaves};
 ghost use Rattle.storing.specs.Put.{Put};
 ghost use Rattle.records.specs.Source.{layoutsAt, sourceOf};
@@ -23,18 +23,6 @@ ghost use Rattle.moves.specs.Passes.{Begins, cellsAt, Measures};
 pub enum Measured {
     Whole(usize),
     Stopped(Halt),
-}
-
-// What is kept before the first record: a number that no list has, and what stands for it.
-fn keep_none() -> Said
-    ensures { λ r. ⌜ ((source : Source) → listedMany source < 2 ^ 64 → SaysOld source r) ⌝ }
-{
-    Said {
-        layout: 0xFFFF_FFFF_FFFF_FFFF,
-        m: 0,
-        t: 0,
-        v: 0,
-    }
 }
 
 // The layout that a record says by its number, as records of an old dump say it, up to the first range: no other form than 0 moves, and that has one.
@@ -72,7 +60,7 @@ fn measure(dump: &[u8], places: &[u16], start: usize) -> Measured
 {
     let mut at = start;
     let mut total = 0;
-    let mut kept = keep_none();
+    let mut kept = dump::kept::say_none();
     loop {
         match dump::locate(dump, Kind::New, places, at) {
             Located::Record(head) => {
@@ -123,7 +111,7 @@ fn put_records(dump: &[u8], places: &[u16], start: usize, out: &mut [u8]) -> usi
 {
     let mut at = start;
     let mut place = 0;
-    let mut kept = keep_none();
+    let mut kept = dump::kept::say_none();
     loop {
         match dump::locate(dump, Kind::New, places, at) {
             Located::Record(head) => {

@@ -17,7 +17,7 @@ use Rattle.moves.specs.Kept.{SaysOld}
 use Rattle.moves.proofs.Passing.{at-record, at-end, at-stop, cells-count, passing-stop}
 use Rattle.moves.proofs.Heads.{head-below}
 use Rattle.moves.proofs.Storing.{Measuring, measuring-begin, measuring-next, measuring-end}
-use Rattle.moves.proofs.ToOld.{old-said, old-at, old-head}
+use Rattle.moves.proofs.ToOld.{none-says, old-said, old-at, old-head}
 use Rattle.moves.proofs.to_old.measure.Statement.{statement}
 use Rattle.moves.proofs.to_old.measure.Tie as tie
 
@@ -54,10 +54,10 @@ measure-spec =
     (tie.spec
     Inv-loop
     μ-loop
-    -- keep-none-requires
+    -- say-none-requires
     (λ c κs. search needs)
     -- loop-holds
-    (λ c. let s = c .before .before .before in (measuring-begin _ _ _ _ _ _ (s .pre), c .keep-none .ensures _ (places-few New _ _ (omega arith))))
+    (λ c. let s = c .before .before .before in (measuring-begin _ _ _ _ _ _ (s .pre), subst (SaysOld _) (sym (c .say-none .ensures)) (none-says _ (places-few New _ _ (omega arith)))))
     -- locate-requires
     (λ c κs. let s = c .before .before .before .before in record { start = s .args .start; opens = s .pre })
     (λ c. search needs)

@@ -19,7 +19,7 @@ use Rattle.moves.specs.Passes.{oldHead, cellsAt}
 use Rattle.moves.proofs.Passing.{at-record, at-end, at-stop}
 use Rattle.moves.proofs.Heads.{head-below}
 use Rattle.moves.proofs.Storing.{Filling, filling-begin, filling-same, filling-room, filling-next, filling-end, filling-stop}
-use Rattle.moves.proofs.ToOld.{old-said, old-head, put-same}
+use Rattle.moves.proofs.ToOld.{none-says, old-said, old-head, put-same}
 use Rattle.moves.proofs.to_old.put_records.Statement.{statement}
 use Rattle.moves.proofs.to_old.put_records.Tie as tie
 
@@ -51,12 +51,12 @@ put-records-spec =
     (tie.spec
     Inv-loop
     μ-loop
-    -- keep-none-requires
+    -- say-none-requires
     (λ c κs. search needs)
     -- loop-holds
     (λ c.
     let s = c .before .before .before .before in
-    (filling-begin _ _ _ _ _ _ (s .pre .0 .0) _ 0, c .keep-none .ensures _ (places-few New _ _ (omega arith))))
+    (filling-begin _ _ _ _ _ _ (s .pre .0 .0) _ 0, subst (SaysOld _) (sym (c .say-none .ensures)) (none-says _ (places-few New _ _ (omega arith)))))
     -- locate-requires
     (λ c κs. let s = c .before .before .before .before .before in record { start = s .args .start; opens = s .pre .0 .0 })
     (λ c. search needs)
