@@ -1,8 +1,9 @@
 # demo and test do all the set-up that a fresh machine needs. What stands behind ## is what `make help` says of a target.
-.PHONY: help demo test .crates .second curve archive shared install crosscheck bench triangle
+.PHONY: help demo test wrong curve archive shared install crosscheck bench triangle
 CALLS = 200000
 ROUNDS ?= 21
 CASES ?= .*
+PROGRAMS = fieldlist answers handbook
 PREFIX = /usr/local
 ARCHIVE = target/staticlib/libgorvlime.a
 SHARED = target/shared/libgorvlime.so
@@ -19,33 +20,11 @@ demo: ## proves fieldlist and lists samples/drives.dump with it: seven fields, o
 	@tools/run fieldlist <samples/drives.dump
 
 test: ## proves every crate, tries every wrong build and runs every test
-	@tools/setup
-	@rt fmt --check
-	@tests/run-docs
-	@tests/run-make
-	@$(MAKE) --no-print-directory --jobs=2 --output-sync .crates .second
-	@rt staticlib gorvlime
-	@tests/run-listings
-	@tests/run-descriptors
-	@tests/run-values
-	@tests/run-curve
-	@tests/run-archive
-	@tests/run-triangle
-	@tests/run-calls
-	@tests/run-hex
-	@tests/run-install
-	@tests/run-collector
-	@tools/frames $(ARCHIVE) --limit 1800 --limit gorvlime_layout=320 --limit gorvlime_move_to_new=2300
-	@tests/crosscheck $(CALLS)
-	@tests/run-commands
-	@rt ci
+	@tests/run-all $(CALLS)
 
-# Two parts of the test that share nothing.
-.crates:
-	@rt check fieldlist answers handbook
-.second:
-	@cd second && cargo test --release --offline --quiet
-	@cd second && cargo build --release --offline --quiet
+wrong: ## tries the wrong builds of CRATE=.. alone, or of all crates, over what is proved of them
+	@tools/prove check $(or $(CRATE),$(PROGRAMS) figures)
+	@tools/wrong --all $(CRATE)
 
 curve: ## makes a table and a picture of samples/year, target/year.csv and year.png; installs matplotlib if it is missing
 	@tools/setup-curve

@@ -1,6 +1,4 @@
 pub mod Agreed
-pub mod HexExamples
-pub mod NewForm
 pub mod Tests
 pub mod Count
 pub mod Deal
@@ -14,7 +12,6 @@ pub mod Run
 pub mod Numbers
 pub mod Wits
 pub mod Cells
-pub mod Placed
 pub mod Bytes
 pub mod LayoutCall
 pub mod ReadCall
@@ -22,9 +19,7 @@ pub mod WriteCall
 pub mod Unread
 pub mod Demand
 pub mod EqualRanges
-pub mod RangesExamples
 pub mod Rows
-pub mod Published
 pub mod Sample
 pub mod Places
 pub mod Sums
@@ -51,6 +46,5 @@ pub mod HexLines
 pub mod HexText
 pub mod HexImport
 pub mod HexCalls
-pub mod NewDumpExamples
 pub mod Many
 pub mod ManyExamples
