@@ -78,6 +78,10 @@ static void same_step(struct gorvlime_found got, struct gorvlime_found expected)
     same("unerased", got.unerased, expected.unerased);
 }
 
+/* The fields are named here, so that two which change places in the header are told apart. */
+#define RECORD(SERIAL, M, T, V, START, LENGTH, NEXT, REFUSED, GENERATION, NUMBER, LEFT, UNERASED) \
+    {.records = 1, .serial = (SERIAL), .m = (M), .t = (T), .v = (V), .start = (START), .length = (LENGTH), .next = (NEXT), \
+     .refused = (REFUSED), .generation = (GENERATION), .number = (NUMBER), .left = (LEFT), .unerased = (UNERASED)}
 #define END {0}
 #define STOP(where) {.refusal = 7, .offset = (where)}
 #define DOCUMENT_DUMP "07 02 03 04 01 4F  AC 02 02 02 14 02 00 40  08 02 03 04 01 00  09 02 02 14 02 02 80"
@@ -88,31 +92,31 @@ static const struct {
     size_t at;
     struct gorvlime_found found;
 } steps[] = {
-    {DOCUMENT_DUMP, 0, {0, 0, 1, 7, 2, 3, 4, 5, 1, 6, 0, 3, 2, 0, 0}},
-    {DOCUMENT_DUMP, 6, {0, 0, 1, 300, 2, 2, 20, 12, 2, 14, 0, 1, 1, 1, 0}},
-    {DOCUMENT_DUMP, 14, {0, 0, 1, 8, 2, 3, 4, 19, 1, 20, 0, 1, 0, 3, 0}},
-    {DOCUMENT_DUMP, 20, {0, 0, 1, 9, 2, 2, 20, 25, 2, 27, 16, 1, 0, 0, 0}},
+    {DOCUMENT_DUMP, 0, RECORD(7, 2, 3, 4, 5, 1, 6, 0, 3, 2, 0, 0)},
+    {DOCUMENT_DUMP, 6, RECORD(300, 2, 2, 20, 12, 2, 14, 0, 1, 1, 1, 0)},
+    {DOCUMENT_DUMP, 14, RECORD(8, 2, 3, 4, 19, 1, 20, 0, 1, 0, 3, 0)},
+    {DOCUMENT_DUMP, 20, RECORD(9, 2, 2, 20, 25, 2, 27, 16, 1, 0, 0, 0)},
     {DOCUMENT_DUMP, 27, END},
     {DOCUMENT_DUMP, 28, END},
     {DOCUMENT_DUMP, SIZE_MAX, END},
     {"", 0, END},
     {"", 1, END},
     /* A record's own refusals. */
-    {"00 00 00 00 00", 0, {0, 0, 1, 0, 0, 0, 0, 5, 0, 5, 1, 0, 0, 0, 0}},
-    {"01 05 03 04 01 00", 0, {0, 0, 1, 1, 5, 3, 4, 5, 1, 6, 1, 0, 0, 0, 0}},
-    {"01 02 11 04 01 00", 0, {0, 0, 1, 1, 2, 17, 4, 5, 1, 6, 1, 0, 0, 0, 0}},
-    {"01 02 03 04 00", 0, {0, 0, 1, 1, 2, 3, 4, 5, 0, 5, 3, 0, 0, 0, 0}},
-    {"01 02 03 04 02 00 00", 0, {0, 0, 1, 1, 2, 3, 4, 5, 2, 7, 3, 0, 0, 0, 0}},
-    {"01 02 02 14 02 00 41", 0, {0, 0, 1, 1, 2, 2, 20, 5, 2, 7, 3, 0, 0, 0, 0}},
-    {UNREADABLE_DUMP, 0, {0, 0, 1, 1, 2, 3, 4, 5, 1, 6, 15, 2, 0, 0, 2}},
-    {UNREADABLE_DUMP, 6, {0, 0, 1, 2, 2, 3, 4, 11, 1, 12, 16, 2, 0, 0, 0}},
-    {"01 02 03 04 01 FF", 0, {0, 0, 1, 1, 2, 3, 4, 5, 1, 6, 15, 3, 0, 0, 0}},
-    {"01 02 02 81 80 80 80 80 80 80 80 01 00", 0, {0, 0, 1, 1, 2, 2, RANGE + 1, 13, 0, 13, 1, 0, 0, 0, 0}},
+    {"00 00 00 00 00", 0, RECORD(0, 0, 0, 0, 5, 0, 5, 1, 0, 0, 0, 0)},
+    {"01 05 03 04 01 00", 0, RECORD(1, 5, 3, 4, 5, 1, 6, 1, 0, 0, 0, 0)},
+    {"01 02 11 04 01 00", 0, RECORD(1, 2, 17, 4, 5, 1, 6, 1, 0, 0, 0, 0)},
+    {"01 02 03 04 00", 0, RECORD(1, 2, 3, 4, 5, 0, 5, 3, 0, 0, 0, 0)},
+    {"01 02 03 04 02 00 00", 0, RECORD(1, 2, 3, 4, 5, 2, 7, 3, 0, 0, 0, 0)},
+    {"01 02 02 14 02 00 41", 0, RECORD(1, 2, 2, 20, 5, 2, 7, 3, 0, 0, 0, 0)},
+    {UNREADABLE_DUMP, 0, RECORD(1, 2, 3, 4, 5, 1, 6, 15, 2, 0, 0, 2)},
+    {UNREADABLE_DUMP, 6, RECORD(2, 2, 3, 4, 11, 1, 12, 16, 2, 0, 0, 0)},
+    {"01 02 03 04 01 FF", 0, RECORD(1, 2, 3, 4, 5, 1, 6, 15, 3, 0, 0, 0)},
+    {"01 02 02 81 80 80 80 80 80 80 80 01 00", 0, RECORD(1, 2, 2, RANGE + 1, 13, 0, 13, 1, 0, 0, 0, 0)},
     /* Nine bytes are the longest number. */
-    {"FF FF FF FF FF FF FF FF 7F 02 03 04 01 4F", 0, {0, 0, 1, GORVLIME_SERIAL_MOST, 2, 3, 4, 13, 1, 14, 0, 3, 2, 0, 0}},
+    {"FF FF FF FF FF FF FF FF 7F 02 03 04 01 4F", 0, RECORD(GORVLIME_SERIAL_MOST, 2, 3, 4, 13, 1, 14, 0, 3, 2, 0, 0)},
     {"FF FF FF FF FF FF FF FF FF 01 02 03 04 01 4F", 0, STOP(0)},
     {"FF FF FF FF FF FF FF FF FF 7F 02 03 04 01 4F", 0, STOP(0)},
-    {"80 80 80 80 80 80 80 80 01 02 03 04 01 4F", 0, {0, 0, 1, RANGE, 2, 3, 4, 13, 1, 14, 0, 3, 2, 0, 0}},
+    {"80 80 80 80 80 80 80 80 01 02 03 04 01 4F", 0, RECORD(RANGE, 2, 3, 4, 13, 1, 14, 0, 3, 2, 0, 0)},
     /* Not in shortest form. */
     {"80 00", 0, STOP(0)},
     {"80 00 02 03 04 01 4F", 0, STOP(0)},
