@@ -1,6 +1,7 @@
 #!/usr/bin/env python3
 """The numbers of a dump, as a collector written in Python takes them: it walks the dump on standard input and prints a line
-for each field, `serial generation number left` or `serial refused N`.
+for each field, `serial generation number left` or `serial refused N`. The exit status is 0 where the listing is whole: it
+ends in `records N`, and no `stopped` line is before it.
 
     make shared
     examples/collector.py <samples/drives.dump
@@ -73,6 +74,7 @@ def print_field(row):
 
 
 def print_listing(library, dump, is_new):
+    """Whether the listing is whole."""
     records = 0
     for walked, rows in walks_of(library, dump, is_new):
         for row in rows:
@@ -80,10 +82,11 @@ def print_listing(library, dump, is_new):
         records += len(rows)
     if walked.refusal == 8:
         print("refused 8")
-        return
+        return False
     if walked.refusal == 7:
         print("stopped 7 at", walked.offset)
     print("records", records)
+    return walked.refusal == 0
 
 
 def main():
@@ -96,7 +99,7 @@ def main():
     except OSError as why:
         sys.exit("collector.py: cannot load the library: %s" % why)
     # One byte more than a dump may have, so that the walk sees what is too much and refuses it.
-    print_listing(library, sys.stdin.buffer.read(DUMP_MOST + 1), options.new)
+    sys.exit(0 if print_listing(library, sys.stdin.buffer.read(DUMP_MOST + 1), options.new) else 1)
 
 
 if __name__ == "__main__":

@@ -1,5 +1,6 @@
 //! The numbers of a dump, as a collector written in Rust takes them: it walks the dump on standard input and prints a line
-//! for each field, `serial generation number left` or `serial refused N`.
+//! for each field, `serial generation number left` or `serial refused N`. The exit status is 0 where the listing is whole: it
+//! ends in `records N`, and no `stopped` line is before it.
 //!
 //!     make archive
 //!     tools/rustc examples/collector.rs -o target/collector
@@ -44,7 +45,8 @@ fn print_field(row: &[u64]) {
     }
 }
 
-fn list(dump: &[u8]) {
+/// Whether the listing is whole.
+fn list(dump: &[u8]) -> bool {
     let mut rows = [0u64; 64 * gorvlime::ROW];
     let mut at = 0;
     let mut records = 0;
@@ -57,9 +59,13 @@ fn list(dump: &[u8]) {
             0 if walked.ended == 0 => continue,
             0 => {}
             7 => println!("stopped 7 at {}", walked.offset),
-            refusal => return println!("refused {}", refusal),
+            refusal => {
+                println!("refused {}", refusal);
+                return false;
+            }
         }
-        return println!("records {}", records);
+        println!("records {}", records);
+        return walked.refusal == 0;
     }
 }
 
@@ -68,6 +74,5 @@ fn list(dump: &[u8]) {
 pub extern "C" fn main() -> i32 {
     let mut dump = Vec::new();
     io::stdin().read_to_end(&mut dump).expect("standard input can be read");
-    list(&dump);
-    0
+    i32::from(!list(&dump))
 }

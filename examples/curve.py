@@ -54,16 +54,22 @@ def listing_of(path, words):
     """The lines of a listing, or those that fieldlist prints for a dump; what it says on standard error is passed on."""
     with open(path, "rb") as file:
         if path.endswith(".txt"):
-            return file.read().decode("ascii", "replace").splitlines()
+            return lines_in(file.read())
         run = subprocess.run(FIELDLIST + words, stdin=file, stdout=subprocess.PIPE)
     if run.returncode != 0:
         sys.exit("curve: fieldlist cannot be run")
-    return run.stdout.decode("ascii", "replace").splitlines()
+    return lines_in(run.stdout)
+
+
+def lines_in(text):
+    """The lines of a text. A last one that lacks its line feed was cut off and is none."""
+    return text.decode("ascii", "replace").split("\n")[:-1]
 
 
 def rows_of(day, lines):
-    """The rows of a listing that is whole. Of one that stops even the lines before are left out: a count that is damaged
-    shifts what stands behind it, so that wrong ones may be among them."""
+    """The rows of a listing that is whole: it ends in `records N`, and no `stopped` line is before it. Of one that stops even
+    the lines before are left out: a count that is damaged shifts what stands behind it, so that wrong ones may be among
+    them."""
     if lines == ["refused 8"]:
         raise LeftOut("more than 65,536 bytes, refused 8")
     stopped = [line for line in lines if line.startswith("stopped")]
