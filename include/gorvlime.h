@@ -26,7 +26,8 @@
  *   new dump, and a walk has filled and counts the rows of the records before it. Refusals 15 and 16 tell a generation, 15 a
  *   count of groups too. A gorvlime_write_many that stops at a field tells which, and has written the fields before it.
  * - Lend no null pointer, not even with a count of 0, and no output, nor cells to be written, that overlap what else is
- *   lent. Not a byte more is read or stored than is lent.
+ *   lent. Nothing that is lent may change while a call runs, by another thread, an interrupt or a device. Not a byte more is
+ *   read or stored than is lent.
  * - There is no state, no heap and no lock: calls may run at once on different memory.
  * - The archive libgorvlime.a is for 64-bit x86 and its System V calling convention. Of other code it needs `memcpy` and
  *   nothing else; layout, read and write need no other code at all. It is position independent, and all its data is
