@@ -1,4 +1,7 @@
 // A field's cells between lent bytes and words of groups.
+use binary::low_ones;
+use binary::ones;
+use binary::wide;
 ghost use mathlib.Core.Path.{_≡_};
 ghost use Prim.Native.Nat.{_+_, _*_, _-_, _^_, _/_, _%_, _<_, _≤_};
 ghost use lib.ListN.{length, take};
@@ -7,12 +10,6 @@ ghost use lib.Count as Count;
 ghost use Rattle.code.specs.Cells as Code;
 ghost use Rattle.words.specs.Words as Words;
 ghost use Rattle.cells.specs.Cells as Cells;
-
-fn wide(x: u8) -> u64
-    ensures { λ r. ⌜ (r ≡ x) × (r < 256) ⌝ }
-{
-    x as u64
-}
 
 // A byte with its bits the other way round.
 fn mirror(x: u64) -> u64
@@ -131,14 +128,6 @@ fn span(m: usize) -> usize
     if m == 3 { 6 } else { 8 }
 }
 
-// n ones.
-fn ones_below(n: usize) -> u64
-    requires { ⌜ n < 64 ⌝ }
-    ensures { λ r. ⌜ r ≡ 2 ^ n - 1 ⌝ }
-{
-    (1 << n) - 1
-}
-
 // The word of so many bytes from byte `at` on.
 fn any_word(cells: &[u8], order: u64, at: usize, size: usize) -> u64
     requires { ⌜ (at < length (now cells)) × (length (now cells) ≤ 128) × (6 ≤ size) × (size ≤ 8) ⌝ }
@@ -176,7 +165,7 @@ pub fn load(cells: &[u8], order: u64, m: usize, h: usize, words: &mut [u64; 16])
         at += size;
         i += 1;
     }
-    words[i] = any_word(cells, order, at, size) | ones_below(8 * (at + size) - m * h);
+    words[i] = any_word(cells, order, at, size) | low_ones(8 * (at + size) - m * h);
     i + 1
 }
 
@@ -262,12 +251,6 @@ fn blend(w: u64, d: usize, size: usize, old: u64) -> u64
 {
     let behind = 64 - 8 * size;
     ((w >> d) << (d + behind)) | last_bits(old, behind)
-}
-
-fn ones(x: u64) -> u64
-    ensures { λ r. ⌜ (r ≡ Count.ones x) × (r ≤ 64) ⌝ }
-{
-    u64::count_ones(x) as u64
 }
 
 // How many bits are 1 in the new word and 0 in the old.

@@ -9,13 +9,24 @@ use Rattle.code.specs.declared.Kind.the-variants.{Old, New}
 use Rattle.code.specs.Dump.{Step, taken, ended, stopped, Opening, barred, entered, opening, step, walkFrom, rowLength, rowSteps, closing, walkOn, walkReply}
 use Rattle.code.proofs.Walk.{step-forward, walk-taken, walk-ended, walk-stopped}
 use Rattle.code.proofs.Steps.{Refusing, step-refusing, Barring, open-barring}
+use Rattle.code.specs.Calls.{refusalIn}
+
+-- the numbers of a walk's reply by name: the rows filled, where the next step would start, and 1 where the end was reached (RULES 13)
+abbrev pub rowsIn : List ℕ → ℕ
+rowsIn reply = getD reply 2 0
+
+abbrev pub nextIn : List ℕ → ℕ
+nextIn reply = getD reply 3 0
+
+abbrev pub endedIn : List ℕ → ℕ
+endedIn reply = getD reply 4 0
 
 module _ (kind : Kind) (bytes : List ℕ) where
   -- the reply after so many rows, with room for so many more
   record Closed (at done room : ℕ) (reply : List ℕ) : Type 0 where
-    few : getD reply 2 0 ≤ done + room
-    within : at ≤ length bytes → getD reply 3 0 ≤ length bytes
-    onward : getD reply 0 0 ≡ 0 → getD reply 4 0 ≡ 0 → (at ≤ getD reply 3 0) × (0 < room → at < getD reply 3 0)
+    few : rowsIn reply ≤ done + room
+    within : at ≤ length bytes → nextIn reply ≤ length bytes
+    onward : refusalIn reply ≡ 0 → endedIn reply ≡ 0 → (at ≤ nextIn reply) × (0 < room → at < nextIn reply)
 
   closes : (room at done : ℕ) → Closed at done room (closing at done (walkFrom room kind bytes at))
   unfolding walkFrom closing
@@ -49,12 +60,12 @@ module _ (kind : Kind) (bytes : List ℕ) where
     few-rows Old n h = omega arith
     few-rows New n h = omega arith
 
-    pub walk-few : rowLength kind * getD (walkReply kind bytes at rows) 2 0 ≤ length rows
-    walk-few = few-rows kind (getD (walkReply kind bytes at rows) 2 0) (omega (arith, walked .few))
+    pub walk-few : rowLength kind * rowsIn (walkReply kind bytes at rows) ≤ length rows
+    walk-few = few-rows kind (rowsIn (walkReply kind bytes at rows)) (omega (arith, walked .few))
 
     -- rows that have room for one record take the walk on, so that a walk by a few rows at a time ends
-    pub walk-onward : rowLength kind ≤ length rows → at ≤ length bytes → getD (walkReply kind bytes at rows) 0 0 ≡ 0 → getD (walkReply kind bytes at rows) 4 0 ≡ 0 →
-        (at < getD (walkReply kind bytes at rows) 3 0) × (getD (walkReply kind bytes at rows) 3 0 ≤ length bytes)
+    pub walk-onward : rowLength kind ≤ length rows → at ≤ length bytes → refusalIn (walkReply kind bytes at rows) ≡ 0 → endedIn (walkReply kind bytes at rows) ≡ 0 →
+        (at < nextIn (walkReply kind bytes at rows)) × (nextIn (walkReply kind bytes at rows) ≤ length bytes)
     walk-onward some l r e = (walked .onward r e .1 (some-row kind some), walked .within l)
       where
         some-row : (kind : Kind) → rowLength kind ≤ length rows → 0 < length rows / rowLength kind

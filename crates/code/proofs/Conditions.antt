@@ -5,8 +5,8 @@ use mathlib.Core.List.{List, [], _∷_}
 use native.Mathlib.Omega.{arith}
 use lib.ListN.{length, getD}
 use Rattle.code.specs.Count.{fewer}
-use Rattle.code.specs.Layout.{Meets, room}
-use Rattle.code.specs.Field.{base, fewest}
+use Rattle.code.specs.Layout.{Meets, roomBy}
+use Rattle.code.specs.Code.{Code, erased, dealt, generationAt, room, deals}
 
 -- each count is above the next, 0 after the last, and has room for its range; the first of the list has b values from `first` places on, the others e − 1
 -- from 1 on
@@ -14,14 +14,14 @@ unfoldable pub Holds : ℕ → ℕ → ℕ → List ℕ → List ℕ → Type 0
 Holds e b first [] [] = Unit {0}
 Holds e b first [] (v ∷ vs) = ⊥
 Holds e b first (h ∷ hs) [] = ⊥
-Holds e b first (h ∷ hs) (v ∷ vs) = (getD hs 0 0 < h) × (v ≤ room e b first h (getD hs 0 0)) × Holds e (e - 1) 1 hs vs
+Holds e b first (h ∷ hs) (v ∷ vs) = (getD hs 0 0 < h) × (v ≤ roomBy e b first h (getD hs 0 0)) × Holds e (e - 1) 1 hs vs
 
 -- a layout: groups of 2 wits or more, generation 1 writing from 0 or 1 places on, 2 generations or more
-pub record Layout (e first : ℕ) (hs vs : List ℕ) : Type 0 where
-  pub wide : 2 ≤ e
-  pub form : first ≤ 1
-  pub two : 2 ≤ length hs
-  pub holds : Holds e e first hs vs
+pub record Layout (c : Code) : Type 0 where
+  pub wide : 2 ≤ erased c
+  pub form : c .first ≤ 1
+  pub two : 2 ≤ length (c .counts)
+  pub holds : Holds (erased c) (erased c) (c .first) (c .counts) (c .ranges)
 
 -- What the conditions say of generation n + 1.
 pub holds-length : (e b first : ℕ) (hs vs : List ℕ) → Holds e b first hs vs → length vs ≡ length hs
@@ -45,7 +45,7 @@ head-most e b first (h ∷ hs) [] n m = absurd m
 head-most e b first (h ∷ hs) (v ∷ vs) zero m = omega arith
 head-most e b first (h ∷ hs) (v ∷ vs) (suc n) m = omega (arith, head-most e (e - 1) 1 hs vs n (m .2), m .0)
 
-pub later-room : (e : ℕ) (hs vs : List ℕ) (n : ℕ) → Holds e (e - 1) 1 hs vs → n < length hs → getD vs n 0 ≤ room e (e - 1) 1 (getD hs n 0) (getD hs (suc n) 0)
+pub later-room : (e : ℕ) (hs vs : List ℕ) (n : ℕ) → Holds e (e - 1) 1 hs vs → n < length hs → getD vs n 0 ≤ roomBy e (e - 1) 1 (getD hs n 0) (getD hs (suc n) 0)
 unfolding Holds
 later-room e [] vs n m l = absurd (omega arith)
 later-room e (h ∷ hs) [] n m l = absurd m
@@ -53,12 +53,20 @@ later-room e (h ∷ hs) (v ∷ vs) zero m l = m .1
 later-room e (h ∷ hs) (v ∷ vs) (suc n) m l = later-room e hs vs n (m .2) (omega arith)
 
 pub holds-room : (e first : ℕ) (hs vs : List ℕ) (n : ℕ) → Holds e e first hs vs → n < length hs →
-    getD vs n 0 ≤ room e (base e n) (fewest first n) (getD hs n 0) (getD hs (suc n) 0)
-unfolding Holds base fewest
+    getD vs n 0 ≤ room (dealt e first n (getD hs (suc n) 0)) (getD hs n 0) (getD hs (suc n) 0)
+unfolding Holds dealt
 holds-room e first [] vs n m l = absurd (omega arith)
 holds-room e first (h ∷ hs) [] n m l = absurd m
 holds-room e first (h ∷ hs) (v ∷ vs) zero m l = m .1
 holds-room e first (h ∷ hs) (v ∷ vs) (suc n) m l = later-room e hs vs n (m .2) (omega arith)
+
+-- of a code: a generation has more places than the next, and room for its range
+module _ (c : Code) (y : Layout c) (n : ℕ) (l : n < length (c .counts)) where
+  pub falls : generationAt c n .next < generationAt c n .places
+  falls = holds-falls (erased c) (erased c) (c .first) (c .counts) (c .ranges) n (y .holds) l
+
+  pub fits : generationAt c n .range ≤ room (generationAt c n .dealing) (generationAt c n .places) (generationAt c n .next)
+  fits = holds-room (erased c) (c .first) (c .counts) (c .ranges) n (y .holds) l
 
 -- the same by place, as document 01 numbers the conditions, z being the last place
 record Each (e b first z : ℕ) (hs vs : List ℕ) : Type 0 where
@@ -70,8 +78,8 @@ record Each (e b first z : ℕ) (hs vs : List ℕ) : Type 0 where
   goes : (i : ℕ) → 0 < i → suc i < length hs → getD vs i 0 ≤ fewer (e - 1) (getD hs i 0) 1 (suc (getD hs i 0 - getD hs (suc i) 0))
   closes : getD vs z 0 ≤ e ^ getD hs z 0 - 1
 
-room-inner : (e b first h h′ : ℕ) → 0 < h′ → room e b first h h′ ≡ fewer b h first (suc (h - h′))
-unfolding room
+room-inner : (e b first h h′ : ℕ) → 0 < h′ → roomBy e b first h h′ ≡ fewer b h first (suc (h - h′))
+unfolding room deals
 room-inner e b first h zero p = absurd (omega arith)
 room-inner e b first h (suc h′) p = refl
 
@@ -81,7 +89,7 @@ head-above e b first k hs [] y = absurd y
 head-above e b first k hs (v ∷ vs) y = omega (arith, y .0)
 
 each-holds : (e b first z : ℕ) (hs vs : List ℕ) → Each e b first z hs vs → Holds e b first hs vs
-unfolding Holds room
+unfolding Holds room deals
 each-holds e b first z [] vs y = absurd (omega (arith, y .size))
 each-holds e b first z (h ∷ hs) [] y = absurd (omega (arith, y .many))
 each-holds e b first zero (h ∷ []) (v ∷ []) y = (y .ends, y .closes, tt)
@@ -103,7 +111,7 @@ each-holds e b first (suc z) (h ∷ k ∷ hs) (v ∷ vs) y =
 
 -- the other way, place by place
 holds-ends : (e b first z : ℕ) (hs vs : List ℕ) → Holds e b first hs vs → length hs ≡ suc z → (0 < getD hs z 0) × (getD vs z 0 ≤ e ^ getD hs z 0 - 1)
-unfolding Holds room
+unfolding Holds room deals
 holds-ends e b first z [] vs y l = absurd (omega arith)
 holds-ends e b first z (h ∷ hs) [] y l = absurd y
 holds-ends e b first zero (h ∷ []) (v ∷ vs) y l = (y .0, y .1)
@@ -130,7 +138,7 @@ module _ (m first : ℕ) (hs vs : List ℕ) (two : 2 ≤ length vs) where
       })
 
   pub holds-meets : Holds (2 ^ m - 1) (2 ^ m - 1) first hs vs → Meets m first hs vs
-  unfolding base fewest
+  unfolding dealt
   holds-meets y =
       let q : 2 ^ m - 2 ≡ 2 ^ m - 1 - 1 = omega arith in
       let e = 2 ^ m - 1 in

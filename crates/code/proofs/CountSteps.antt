@@ -10,7 +10,8 @@ use lib.ListN.{getD, replicate}
 use borrow.Author.Tests.{le-leb, leb-true}
 use mathlib.Core.List.{List, [], _∷_}
 use Rattle.code.specs.Count.{choose, least}
-use Rattle.code.specs.Layout.{room, counts, grant}
+use Rattle.code.specs.Code.{room, deals}
+use Rattle.code.specs.Layout.{roomBy, counts, grant}
 use Rattle.code.proofs.Tests.{least-low, least-le, least-passes}
 use Rattle.code.specs.Lists.{Upto}
 use Rattle.code.proofs.Count.{fewer-step, fewer-more}
@@ -18,8 +19,8 @@ use Rattle.code.proofs.Conditions.{head-most}
 use Rattle.code.proofs.Grant.{counts-hold}
 
 -- a step that has room above one count has room above the next, also with more values or an earlier start: (12) to (14) of 003
-step-again : (e b first low x v : ℕ) → e - 1 ≤ b → first ≤ 1 → 0 < low → 0 < x → v ≤ room e (e - 1) 1 x low → v ≤ room e b first (x + (x - low)) x
-unfolding room
+step-again : (e b first low x v : ℕ) → e - 1 ≤ b → first ≤ 1 → 0 < low → 0 < x → v ≤ roomBy e (e - 1) 1 x low → v ≤ roomBy e b first (x + (x - low)) x
+unfolding room deals
 step-again e b first zero x v hb hf p q h = absurd (omega arith)
 step-again e b first (suc low) zero v hb hf p q h = absurd (omega arith)
 step-again e b first (suc low) (suc x) v hb hf p q h =
@@ -34,14 +35,14 @@ module _ (g e : ℕ) where
   unfolding counts
   first-step b first v w vs hb hf fits =
       let c = getD (counts g e (e - 1) 1 vs) 0 0 in
-      let h″ = least (λ (x : ℕ). leb w (room e (e - 1) 1 x c)) (suc c) g in
-      let h′ = least (λ (x : ℕ). leb v (room e (e - 1) 1 x h″)) (suc h″) g in
-      let low″ = least-low (λ (x : ℕ). leb w (room e (e - 1) 1 x c)) (suc c) g in
-      let low′ = least-low (λ (x : ℕ). leb v (room e (e - 1) 1 x h″)) (suc h″) g in
-      let passes = leb-true v (room e (e - 1) 1 h′ h″) (least-passes (λ (x : ℕ). leb v (room e (e - 1) 1 x h″)) (suc h″) g (omega arith)) in
+      let h″ = least (λ (x : ℕ). leb w (roomBy e (e - 1) 1 x c)) (suc c) g in
+      let h′ = least (λ (x : ℕ). leb v (roomBy e (e - 1) 1 x h″)) (suc h″) g in
+      let low″ = least-low (λ (x : ℕ). leb w (roomBy e (e - 1) 1 x c)) (suc c) g in
+      let low′ = least-low (λ (x : ℕ). leb v (roomBy e (e - 1) 1 x h″)) (suc h″) g in
+      let passes = leb-true v (roomBy e (e - 1) 1 h′ h″) (least-passes (λ (x : ℕ). leb v (roomBy e (e - 1) 1 x h″)) (suc h″) g (omega arith)) in
       let more = step-again e b first h″ h′ v hb hf (omega arith) (omega arith) passes in
       let top = h′ + (h′ - h″) in
-      omega (arith, least-le (λ (x : ℕ). leb v (room e b first x h′)) (suc h′) g top (omega arith) (le-leb v (room e b first top h′) more))
+      omega (arith, least-le (λ (x : ℕ). leb v (roomBy e b first x h′)) (suc h′) g top (omega arith) (le-leb v (roomBy e b first top h′) more))
 
   steps : (b first v t i : ℕ) → e - 1 ≤ b → first ≤ 1 → suc (suc i) < t → getD (counts g e b first (replicate t v)) (suc i) 0 ≤ g →
       getD (counts g e b first (replicate t v)) i 0 - getD (counts g e b first (replicate t v)) (suc i) 0
@@ -74,8 +75,8 @@ choose-some (suc n) (suc k) l = omega (arith, choose-some n k (omega arith))
 power-large : (b : ℕ) → 2 ≤ b → 2 ^ 57 ≤ b ^ 57
 power-large b h = pow-le-pow-left h 57
 
-room-wide : (e b first c v : ℕ) → 2 ≤ e → 2 ≤ b → first ≤ 1 → v ≤ 2 ^ 56 → v ≤ room e b first (c + 57) c
-unfolding room
+room-wide : (e b first c v : ℕ) → 2 ≤ e → 2 ≤ b → first ≤ 1 → v ≤ 2 ^ 56 → v ≤ roomBy e b first (c + 57) c
+unfolding room deals
 room-wide e b first zero v he hb hf hv = omega (arith, power-large e he)
 room-wide e b first (suc c) v he hb hf hv =
     let d : suc c + 57 - suc c ≡ 57 = omega arith in
@@ -88,8 +89,8 @@ unfolding counts
 counts-near g e b first [] i he hb hf u = omega arith
 counts-near g e b first (v ∷ vs) zero he hb hf u =
     let c = getD (counts g e (e - 1) 1 vs) 0 0 in
-    least-le (λ (x : ℕ). leb v (room e b first x c)) (suc c) g (c + 57) (omega arith)
-    (le-leb v (room e b first (c + 57) c) (room-wide e b first c v (omega arith) hb hf (u .0)))
+    least-le (λ (x : ℕ). leb v (roomBy e b first x c)) (suc c) g (c + 57) (omega arith)
+    (le-leb v (roomBy e b first (c + 57) c) (room-wide e b first c v (omega arith) hb hf (u .0)))
 counts-near g e b first (v ∷ vs) (suc i) he hb hf u = counts-near g e (e - 1) 1 vs i he (omega arith) (omega arith) (u .1)
 
 pub steps-few : (g m first : ℕ) (vs : List ℕ) (i : ℕ) → 2 ≤ m → first ≤ 1 → Upto (2 ^ 56) vs →

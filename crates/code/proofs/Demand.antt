@@ -10,15 +10,17 @@ use lib.ListN.{length, getD, take, replicate, length-replicate}
 use lib.Dec.{leb}
 use borrow.Author.Tests.{ltb-false, lt-ltb, le-ltb, ne-eqb}
 use Rattle.code.specs.declared.Shape.{Shape}
-use Rattle.code.specs.Shape.{firstOf, rangesOf, orderOf, outside, granted, misfit, countsOf, widthOf}
+use Rattle.code.specs.Shape.{firstOf, rangesOf, orderOf, outside, granted, misfit, countsOf, widthOf, codeOf}
 use Rattle.code.specs.Lists.{Below, Rises}
 use Rattle.code.specs.Layout.{Meets, grant}
 use Rattle.code.specs.Cells.{wit, opened, sound, stored, size, ones, turned}
 use Rattle.code.specs.Deal.{written}
+use Rattle.code.specs.Code.{told}
 use Rattle.code.specs.Field.{blank, Writing, refused, wrote}
-use Rattle.code.specs.Run.{accepted, kept, run, total, opening}
-use Rattle.code.specs.Calls.{readCells, numberless, refusal, answer, passes, leaves, layoutRefusal, fieldRead, fieldWrite, left, readReply, writeRefusal, madeAt, writeReply, turnedBy, writeLeaves}
-use Rattle.code.specs.Dump.{Exporting, exportRefusal, exportLeaves}
+use Rattle.code.specs.Run.{kept, run, total, opening}
+use Rattle.code.proofs.Run.{accepted}
+use Rattle.code.specs.Calls.{readCells, numberless, refusal, answer, passes, leaves, layoutRefusal, fieldRead, fieldWrite, left, readReply, writeRefusal, madeAt, writeReply, turnedBy, writeLeaves, generationIn}
+use Rattle.code.specs.Export.{Exporting, exportRefusal, exportLeaves}
 use Rattle.code.proofs.Tests.{le-or-lt, clash}
 use Rattle.code.proofs.Wits.{Bytes}
 use Rattle.code.proofs.Cells.{groups-length, sound-told, stored-opened, stored-sound, upto-all, none-at, blank-stored, turned-ones}
@@ -42,7 +44,7 @@ none-written (suc x ∷ gs) z = absurd (omega arith)
 
 -- the cells that a write of x leaves by the rules
 abbrev ruled : Shape → ℕ → List ℕ → List ℕ
-ruled s = triedCells (orderOf s) (s .m) (firstOf s) (countsOf s) (rangesOf s)
+ruled s = triedCells (codeOf s)
 
 module _ (s : Shape) (ok : layoutRefusal s 256 ≡ []) where
   some : 0 < s .m
@@ -50,7 +52,7 @@ module _ (s : Shape) (ok : layoutRefusal s 256 ≡ []) where
 
   -- After an accepted write reading gives the generation answered and the number just written.
   pub reads-back : (x : ℕ) (bs : List ℕ) → Bytes bs → writeRefusal s x bs ≡ [] →
-      let i = getD (writeReply s x bs) 1 0 in
+      let i = generationIn (writeReply s x bs) in
       let after = writeLeaves s x bs in
       readReply s after ≡ 0 ∷ i ∷ x ∷ left (s .t) (fieldRead s after) ∷ []
   unfolding writeReply answer madeAt fieldWrite fieldRead triedCells kept accepted passes widthOf
@@ -59,12 +61,12 @@ module _ (s : Shape) (ok : layoutRefusal s 256 ≡ []) where
       go : (w : Writing) → fieldWrite s x bs ≡ w → readReply s (kept bs w) ≡ 0 ∷ madeAt w ∷ x ∷ left (s .t) (fieldRead s (kept bs w)) ∷ []
       go refused q = absurd (true≢false (rw (z, q) at (refused-not s ok x bs)))
       go (wrote i bs′) q =
-          let a = accepted-is (orderOf s) (s .m) (firstOf s) (countsOf s) (rangesOf s) (is-layout s ok) some x bs i bs′ B q in
+          let a = accepted-is (codeOf s) (is-layout s ok) some x bs i bs′ B q in
           read-as s bs′ ok (a .right) i x (a .reading)
 
   -- No write turns a 1 back to 0, refused or not.
   pub never-falls : (x : ℕ) (bs : List ℕ) (w : ℕ) → Bytes bs → wit (orderOf s) bs w ≤ wit (orderOf s) (writeLeaves s x bs) w
-  never-falls x bs w B = rw (leaves-is s ok x bs) (tried-is (orderOf s) (s .m) (firstOf s) (countsOf s) (rangesOf s) (is-layout s ok) some x bs B .2 w)
+  never-falls x bs w B = rw (leaves-is s ok x bs) (tried-is (codeOf s) (is-layout s ok) some x bs B .2 w)
 
   -- The turned count answered is the ones after less the ones before, 0 being answered for a refused write.
   answered : (x : ℕ) (bs : List ℕ) → turnedBy (writeReply s x bs) ≡ turned (orderOf s) bs (ruled s x bs)
@@ -82,18 +84,16 @@ module _ (s : Shape) (ok : layoutRefusal s 256 ≡ []) where
 
   pub turned-are : (x : ℕ) (bs : List ℕ) → Bytes bs → turnedBy (writeReply s x bs) + ones (orderOf s) bs ≡ ones (orderOf s) (writeLeaves s x bs)
   turned-are x bs B =
-      rw (answered x bs, leaves-is s ok x bs) (tried-is (orderOf s) (s .m) (firstOf s) (countsOf s) (rangesOf s) (is-layout s ok) some x bs B .1)
+      rw (answered x bs, leaves-is s ok x bs) (tried-is (codeOf s) (is-layout s ok) some x bs B .1)
 
   -- Over any run of writes from blank cells the turned counts add up to the number of ones in the cells.
   pub turned-add-up : (xs : List ℕ) →
       total (λ x bs. turnedBy (writeReply s x bs)) (writeLeaves s) (blankCells s) xs ≡ ones (orderOf s) (run (writeLeaves s) (blankCells s) xs)
   unfolding widthOf
   turned-add-up xs =
-      let hs = countsOf s in
-      let vs = rangesOf s in
-      total-same (writeLeaves s) (ruled s) (leaves-is s ok) (λ x bs. turnedBy (writeReply s x bs)) (turns (orderOf s) (s .m) (firstOf s) hs vs) answered
+      total-same (writeLeaves s) (ruled s) (leaves-is s ok) (λ x bs. turnedBy (writeReply s x bs)) (turns (codeOf s)) answered
       (blankCells s) xs
-      ∙ turned-blank (orderOf s) (s .m) (firstOf s) hs vs (is-layout s ok) some xs
+      ∙ turned-blank (codeOf s) (is-layout s ok) some xs
       ∙ ap (ones (orderOf s)) (sym (run-same (writeLeaves s) (ruled s) (leaves-is s ok) (blankCells s) xs))
 
   -- From blank cells and for any sequence of numbers in range, each below the range of the generation that would take it if any would, the j-th write is
@@ -102,11 +102,9 @@ module _ (s : Shape) (ok : layoutRefusal s 256 ≡ []) where
       passes (writeRefusal s (getD xs j 0) (run (writeLeaves s) (blankCells s) (take j xs))) ≡ leb (suc j - opening (firstOf s) xs) (s .t)
   unfolding fieldWrite widthOf
   accepted-ranged xs j r l =
-      let hs = countsOf s in
-      let vs = rangesOf s in
       refused-not s ok (getD xs j 0) (run (writeLeaves s) (blankCells s) (take j xs))
       ∙ rw (run-same (writeLeaves s) (ruled s) (leaves-is s ok) (blankCells s) (take j xs))
-      (rw (counts-length s ok) at (accepts-is (orderOf s) (s .m) (firstOf s) hs vs (is-layout s ok) some xs j r l))
+      (rw (counts-length s ok) at (accepts-is (codeOf s) (is-layout s ok) some xs j r l))
 
   -- of the forms that have one v: every number is below it
   pub accepted-exactly : (s .form ≡ 2 → ⊥) → (xs : List ℕ) (j : ℕ) → Below (getD (s .v) 0 0) xs → j < length xs →
@@ -146,7 +144,7 @@ module _ (s : Shape) (ok : layoutRefusal s 256 ≡ []) where
   blank-refused new =
       let groups = opened (orderOf s) (s .m) (widthOf s) (blankCells s) in
       let none : written groups ≡ 0 = rw (blank-sound .1) (blank-written (widthOf s)) in
-      let r : fieldRead s (blankCells s) ≡ blank = read-blank (2 ^ s .m - 1) (firstOf s) (countsOf s) (rangesOf s) groups none in
+      let r : fieldRead s (blankCells s) ≡ blank = read-blank (codeOf s) groups none in
       read-none s (blankCells s) ok (blank-sound .0) (rw (r, ne-eqb (s .form) 0 (λ z. omega arith)))
 
   pub refused-blank : (bs : List ℕ) → Bytes bs → readReply s bs ≡ 11 ∷ [] → (0 < s .form) × (bs ≡ blankCells s)
@@ -155,7 +153,7 @@ module _ (s : Shape) (ok : layoutRefusal s 256 ≡ []) where
       let n = eleven-told s bs ok e in
       let h = widthOf s in
       let groups = opened (orderOf s) (s .m) h bs in
-      let none = blank-read (2 ^ s .m - 1) (firstOf s) (countsOf s) (rangesOf s) groups (n .2) in
+      let none = blank-read (codeOf s) groups (n .2) in
       let zero : groups ≡ replicate h 0 = rw (groups-length (s .m) h (wit (orderOf s) bs)) at (none-written groups none) in
       let told = sound-told (orderOf s) (s .m) h bs (n .1) B some in
       (omega (arith, n .0), sym told ∙ ap (stored (orderOf s) (s .m)) zero ∙ blank-stored (orderOf s) (s .m) h some)

@@ -8,7 +8,7 @@ use native.Mathlib.Nat.{pow-suc, pow-zero, one-mul, div-lt-iff-lt-mul}
 use lib.ListN.{length, length-append}
 use borrow.Author.Tests.{lt-ltb, le-ltb}
 use Rattle.code.specs.Numerals.{sevens}
-use Rattle.code.specs.Dump.{spelled}
+use Rattle.code.specs.Listing.{spelled}
 use Rattle.code.proofs.Tests.{le-or-lt}
 
 -- In base b a number below b is one digit, and another is its last digit joined to the digits of the quotient.

@@ -15,8 +15,9 @@ use Rattle.code.specs.declared.Shape.{Shape}
 use Rattle.code.specs.Shape.{single, firstOf, rangesDue, given, rangesOf, orderOf, allRanges, outside, misfit, granted, countsOf, widthOf}
 use Rattle.code.specs.Cells.{listed, sound, opened, turned}
 use Rattle.code.specs.Field.{Reading, blank, reads, miscounted, beyond}
-use Rattle.code.specs.Run.{accepted, kept}
-use Rattle.code.specs.Calls.{readCells, writeCells, answer, passes, leaves, layoutRefusal, layoutReply, fieldRead, fieldWrite, unsound, numberless, miscounts, exceeds, spent, taker, overRange, overTaker, readRefusal, readReply}
+use Rattle.code.specs.Run.{kept}
+use Rattle.code.proofs.Run.{accepted}
+use Rattle.code.specs.Calls.{readCells, writeCells, answer, passes, leaves, layoutRefusal, layoutReply, fieldRead, fieldWrite, unsound, numberless, miscounts, exceeds, spent, taker, overRange, overTaker, readRefusal, readReply, refusalIn}
 use Rattle.code.specs.Calls.{writeRefusal, madeAt, writeReply, writeLeaves}
 use Rattle.code.proofs.Tests.{le-or-lt, clash, and-true, and-false}
 use Rattle.code.proofs.Bytes.{triedCells}
@@ -138,7 +139,7 @@ module _ (s : Shape) (v : ℕ) (two : s .form ≡ 2) (many : s .count ≡ s .t) 
   Later k = (k ≡ 15) ⊎ ((k ≡ 16) ⊎ (k ≡ 5))
 
   abbrev pub Alike : ℕ → List ℕ → Type 0
-  Alike x bs = (writeReply s x bs ≡ writeReply one x bs) ⊎ ((writeReply one x bs ≡ 6 ∷ []) × Later (getD (writeReply s x bs) 0 0))
+  Alike x bs = (writeReply s x bs ≡ writeReply one x bs) ⊎ ((writeReply one x bs ≡ 6 ∷ []) × Later (refusalIn (writeReply s x bs)))
 
   accepted-alike : (x : ℕ) (bs : List ℕ) → writeRefusal one x bs ≡ [] → writeReply s x bs ≡ writeReply one x bs
   unfolding writeReply orderOf passes

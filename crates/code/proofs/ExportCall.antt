@@ -11,7 +11,7 @@ use Rattle.code.specs.Cells.{sound}
 use Rattle.code.specs.declared.Shape.{Shape}
 use Rattle.code.specs.Shape.{orderOf, outside, misfit, granted, countsOf, widthOf}
 use Rattle.code.specs.Calls.{refusal, answer, leaves, layoutRefusal, unsound}
-use Rattle.code.specs.Dump.{recordOf, Exporting, exportRefusal, exportReply, exportLeaves}
+use Rattle.code.specs.Export.{recordOf, Exporting, exportRefusal, exportReply, exportLeaves}
 use Rattle.code.proofs.LayoutCall.{refused-early, passed-early}
 
 module _ (x : Exporting) (cells out : List ℕ) where

@@ -10,10 +10,12 @@ use borrow.Author.Tests.{ltb-false, le-leb}
 use Rattle.code.specs.declared.Kind.the-variants.{New}
 use Rattle.code.specs.declared.Shape.{Shape}
 use Rattle.code.specs.Lists.{Below}
-use Rattle.code.specs.Shape.{shaped, given, outside, misfit, countsOf, Bounds}
-use Rattle.code.specs.Calls.{filled, unsound}
+use Rattle.code.specs.Shape.{shaped, given, outside, misfit, countsOf}
+use Rattle.code.proofs.LayoutCall.{Bounds}
+use Rattle.code.specs.Calls.{filled, unsound, lengthIn, refusalIn}
 use Rattle.code.specs.LayoutList.{Listed, listedNumbers, unlisted, listedShape, listedOf, layoutsOf, uncounted}
-use Rattle.code.specs.Dump.{recordOf, Exporting, oldExport, newExport, exportRefusal, exportReply, exportLeaves, Source, ownLayouts, listedLayouts, walk}
+use Rattle.code.specs.Export.{recordOf, Exporting, oldExport, newExport, exportRefusal, exportReply, exportLeaves}
+use Rattle.code.specs.Dump.{Source, ownLayouts, listedLayouts, walk}
 use Rattle.code.specs.NewDump.{Entry, entryHead, recordsOf, layoutExportRefusal, layoutExportReply, layoutExportLeaves}
 use Rattle.code.proofs.Tests.{clash, and-false}
 use Rattle.code.proofs.LayoutCall.{given-length, given-at, outside-within, passed}
@@ -35,13 +37,13 @@ module _ (x : Exporting) (cells out : List ℕ) where
   on-list true b e = clash (cc)
   on-list false b e = (refl, e)
 
-  pub export-none : getD (exportReply x cells out) 0 0 ≡ 0 → exportRefusal x cells out ≡ []
+  pub export-none : refusalIn (exportReply x cells out) ≡ 0 → exportRefusal x cells out ≡ []
   unfolding exportReply exportRefusal
   export-none e =
       reply-told (exportRefusal x cells out) (length (recordOf (x .head) cells) ∷ [])
       (tests-refuse _ (omega arith, (omega arith, (omega arith, (omega arith, (omega arith, tt)))))) e
 
-  pub export-told : getD (exportReply x cells out) 0 0 ≡ 0 → Exports
+  pub export-told : refusalIn (exportReply x cells out) ≡ 0 → Exports
   unfolding exportRefusal
   export-told e =
       let a = passed 10 [] (ltb (2 ^ 63 - 1) (x .serial)) _ (export-none e) in
@@ -58,9 +60,9 @@ module _ (x : Exporting) (cells out : List ℕ) where
       }
 
   abbrev pub storedRecord : List ℕ
-  storedRecord = take (getD (exportReply x cells out) 1 0) (exportLeaves x cells out)
+  storedRecord = take (lengthIn (exportReply x cells out)) (exportLeaves x cells out)
 
-  pub stored-record : getD (exportReply x cells out) 0 0 ≡ 0 → storedRecord ≡ recordOf (x .head) cells
+  pub stored-record : refusalIn (exportReply x cells out) ≡ 0 → storedRecord ≡ recordOf (x .head) cells
   unfolding exportReply exportLeaves
   stored-record e =
       let made = recordOf (x .head) cells in
@@ -83,12 +85,12 @@ bounded-counted s b vs = rw (le-leb 2 (s .t) (b .t-low), le-leb (s .t) 16 (b .t-
 
 -- The same of the export of a layout.
 module _ (s : Shape) (out : List ℕ) where
-  layout-none : getD (layoutExportReply s out) 0 0 ≡ 0 → layoutExportRefusal s out ≡ []
+  layout-none : refusalIn (layoutExportReply s out) ≡ 0 → layoutExportRefusal s out ≡ []
   unfolding layoutExportReply layoutExportRefusal
   layout-none e =
       reply-told (layoutExportRefusal s out) (length (layoutsOf (listedOf s ∷ [])) ∷ []) (tests-refuse _ (omega arith, (omega arith, (omega arith, tt)))) e
 
-  layout-told : getD (layoutExportReply s out) 0 0 ≡ 0 → Bounds s × (length (layoutsOf (listedOf s ∷ [])) ≤ length out)
+  layout-told : refusalIn (layoutExportReply s out) ≡ 0 → Bounds s × (length (layoutsOf (listedOf s ∷ [])) ≤ length out)
   unfolding layoutExportRefusal
   layout-told e =
       let a = passed 1 [] (outside s 256) _ (layout-none e) in
@@ -97,16 +99,16 @@ module _ (s : Shape) (out : List ℕ) where
       (outside-within s 256 (a .0) .bounds, ltb-false (length out) (length (layoutsOf (listedOf s ∷ []))) (c .0))
 
   abbrev pub storedLayout : List ℕ
-  storedLayout = take (getD (layoutExportReply s out) 1 0) (layoutExportLeaves s out)
+  storedLayout = take (lengthIn (layoutExportReply s out)) (layoutExportLeaves s out)
 
-  pub stored-layout : getD (layoutExportReply s out) 0 0 ≡ 0 → storedLayout ≡ layoutsOf (listedOf s ∷ [])
+  pub stored-layout : refusalIn (layoutExportReply s out) ≡ 0 → storedLayout ≡ layoutsOf (listedOf s ∷ [])
   unfolding layoutExportReply layoutExportLeaves
   stored-layout e =
       let made = layoutsOf (listedOf s ∷ []) in
       stored-made made (layoutExportReply s out) (layoutExportLeaves s out) out
       (accepted (layoutExportRefusal s out) made out (layout-none e) (layout-told e .1))
 
-  exported-listable : getD (layoutExportReply s out) 0 0 ≡ 0 → Listable (listedOf s)
+  exported-listable : refusalIn (layoutExportReply s out) ≡ 0 → Listable (listedOf s)
   unfolding listedNumbers listedOf
   exported-listable e =
       let b = layout-told e .0 in
@@ -140,7 +142,7 @@ Calls = List (Entry × List ℕ)
 abbrev pub AllExported : Source → Calls → Type 0
 AllExported source [] = Unit {0}
 AllExported source (c ∷ cs) =
-    (getD (exportReply (exportOf source (c .0)) (c .0 .cells) (c .1)) 0 0 ≡ 0) × Listing source (c .0) × AllExported source cs
+    (refusalIn (exportReply (exportOf source (c .0)) (c .0 .cells) (c .1)) ≡ 0) × Listing source (c .0) × AllExported source cs
 
 abbrev pub exportedOf : Calls → List Entry
 exportedOf calls = map (λ (c : Entry × List ℕ). c .0) calls
@@ -178,7 +180,7 @@ LayoutCalls = List (Shape × List ℕ)
 
 abbrev pub AllLayouts : LayoutCalls → Type 0
 AllLayouts [] = Unit {0}
-AllLayouts (c ∷ cs) = (getD (layoutExportReply (c .0) (c .1)) 0 0 ≡ 0) × Tidy (c .0) × AllLayouts cs
+AllLayouts (c ∷ cs) = (refusalIn (layoutExportReply (c .0) (c .1)) ≡ 0) × Tidy (c .0) × AllLayouts cs
 
 abbrev pub shapesOf : LayoutCalls → List Shape
 shapesOf calls = map (λ (c : Shape × List ℕ). c .0) calls
@@ -215,7 +217,7 @@ module _ (layoutCalls : LayoutCalls) where
   abbrev pub AllNumbered : Calls → Type 0
   AllNumbered [] = Unit {0}
   AllNumbered (c ∷ cs) =
-      (getD (exportReply (newExport (c .0 .serial) (c .0 .layout) (c .0 .shape)) (c .0 .cells) (c .1)) 0 0 ≡ 0)
+      (refusalIn (exportReply (newExport (c .0 .serial) (c .0 .layout) (c .0 .shape)) (c .0 .cells) (c .1)) ≡ 0)
       × (c .0 .layout < length layoutCalls) × (c .0 .shape ≡ getD (shapesOf layoutCalls) (c .0 .layout) (shaped 0 0 0)) × AllNumbered cs
 
   long : length exportedList ≡ length layoutCalls

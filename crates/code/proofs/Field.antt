@@ -8,32 +8,28 @@ use native.Mathlib.Omega.{arith}
 use lib.ListN.{length, getD}
 use lib.Dec.{ltb, eqb}
 use borrow.Author.Tests.{le-leb, lt-leb, lt-ltb, le-ltb, ltb-true, eq-eqb, ne-eqb}
-use Rattle.code.specs.Deal.{written, deal, plainly}
-use Rattle.code.specs.Layout.{room}
-use Rattle.code.specs.Field.{zeros, past, base, fewest, carriers, told, pattern, Reading, blank, reads, miscounted, beyond, judged, read, erase, cleared, lay, after, refused, wrote, writeAt, writeOn, write}
+use Rattle.code.specs.Deal.{written, number, deal, plainly}
+use Rattle.code.specs.declared.Dealing.{Dealing}
+use Rattle.code.specs.Code.{Code, erased, width, deals, dealt, generationAt, told, pattern, room}
+use Rattle.code.specs.Field.{zeros, past, carriers, Reading, blank, reads, miscounted, beyond, judged, read, erase, cleared, lay, after, refused, wrote, writeAt, writeOn, write}
 use Rattle.code.specs.Lists.{Upto}
 use Rattle.code.proofs.Tests.{le-or-lt, clash}
 use Rattle.code.proofs.Deal.{deal-is, plainly-is, plain-written, blank-number}
-use Rattle.code.proofs.Places.{told-before}
-use Rattle.code.proofs.Conditions.{Holds, Layout, holds-falls, holds-room, head-most}
+use Rattle.code.proofs.Places.{deals-before}
+use Rattle.code.proofs.Conditions.{Holds, Layout, head-most, falls, fits}
 use Rattle.code.proofs.Groups.{Grows, zeros-written, upto-grows, erase-wiped, erase-zeros, erase-length, lay-is, lay-blank, lay-grows, erase-lay-grows}
 
-pub base-bounds : (e first n : ℕ) → 2 ≤ e → first ≤ 1 → (0 < base e n) × (e - 1 ≤ base e n) × (fewest first n ≤ 1)
-unfolding base fewest
-base-bounds e first zero h f = omega arith
-base-bounds e first (suc n) h f = omega arith
-
 -- A generation's pattern of a number that it has room for.
-pub record Pictured (e b first h h′ x : ℕ) (p : List ℕ) : Type 0 where
+pub record Pictured (d : Dealing) (b first h h′ x : ℕ) (p : List ℕ) : Type 0 where
   pub long : length p ≡ h
   pub low : first ≤ written p
   pub keeps : h′ ≤ zeros p
   pub small : Upto b p
-  pub back : told e b first h′ p ≡ x
+  pub back : told d p ≡ x
 
-pub pattern-is : (e b first h h′ x : ℕ) → 0 < b → e - 1 ≤ b → 0 < e → first ≤ 1 → h′ < h → x < room e b first h h′ →
-    Pictured e b first h h′ x (pattern e b first h h′ x)
-unfolding room told pattern
+pattern-is : (e b first h h′ x : ℕ) → 0 < b → e - 1 ≤ b → 0 < e → first ≤ 1 → h′ < h → x < room (deals e b first h′) h h′ →
+    Pictured (deals e b first h′) b first h h′ x (pattern (deals e b first h′) h x)
+unfolding deals room told pattern
 pattern-is e b first h zero x pos eb ep f l hx =
     let p = plainly-is e h (x + 1) ep (omega arith) in
     let w = plain-written e (plainly e h (x + 1)) (omega (arith, p .back)) in
@@ -104,173 +100,177 @@ judged-some true true j x k h = clash (cc)
 judged-some true false j x k h = clash (cc)
 judged-some false u j x k h = clash (cc)
 
-module _ (e first : ℕ) (hs vs : List ℕ) where
+module _ (c : Code) where
   -- blank groups read as such, others as they are judged where their zero groups point
-  pub read-blank : (gs : List ℕ) → written gs ≡ 0 → read e first hs vs gs ≡ blank
+  pub read-blank : (gs : List ℕ) → written gs ≡ 0 → read c gs ≡ blank
   unfolding read
   read-blank gs z = rw (eq-eqb (written gs) 0 z)
 
-  pub read-judged : (gs : List ℕ) (n : ℕ) → 0 < written gs → past hs (zeros gs) ≡ n → read e first hs vs gs ≡ judged e first hs vs gs n
+  pub read-judged : (gs : List ℕ) (n : ℕ) → 0 < written gs → past (c .counts) (zeros gs) ≡ n → read c gs ≡ judged c gs n
   unfolding read
   read-judged gs n w a = rw (ne-eqb (written gs) 0 (λ q. omega arith), a)
 
-  pub judged-reads : (gs p : List ℕ) (n x : ℕ) → carriers e n gs ≡ p → length p ≡ getD hs n 0 → told e (base e n) (fewest first n) (getD hs (suc n) 0) p ≡ x →
-      x < getD vs n 0 → judged e first hs vs gs n ≡ reads (suc n) x
+  pub judged-reads : (gs p : List ℕ) (n x : ℕ) → carriers (erased c) n gs ≡ p → length p ≡ generationAt c n .places → told (generationAt c n .dealing) p ≡ x →
+      x < generationAt c n .range → judged c gs n ≡ reads (suc n) x
   unfolding judged
-  judged-reads gs p n x c l t h = rw (c, t, eq-eqb (length p) (getD hs n 0) l, lt-ltb x (getD vs n 0) h)
+  judged-reads gs p n x k l t h = rw (k, t, eq-eqb (length p) (generationAt c n .places) l, lt-ltb x (generationAt c n .range) h)
 
   -- where a reading fails: another count of places, or a number beyond the range
-  pub judged-miscounted : (gs p : List ℕ) (n : ℕ) → carriers e n gs ≡ p → (length p ≡ getD hs n 0 → ⊥) →
-      judged e first hs vs gs n ≡ miscounted (suc n) (length p)
+  pub judged-miscounted : (gs p : List ℕ) (n : ℕ) → carriers (erased c) n gs ≡ p → (length p ≡ generationAt c n .places → ⊥) →
+      judged c gs n ≡ miscounted (suc n) (length p)
   unfolding judged
-  judged-miscounted gs p n c d = rw (c, ne-eqb (length p) (getD hs n 0) d)
+  judged-miscounted gs p n k d = rw (k, ne-eqb (length p) (generationAt c n .places) d)
 
-  pub judged-beyond : (gs p : List ℕ) (n x : ℕ) → carriers e n gs ≡ p → length p ≡ getD hs n 0 → told e (base e n) (fewest first n) (getD hs (suc n) 0) p ≡ x →
-      getD vs n 0 ≤ x → judged e first hs vs gs n ≡ beyond (suc n)
+  pub judged-beyond : (gs p : List ℕ) (n x : ℕ) → carriers (erased c) n gs ≡ p → length p ≡ generationAt c n .places → told (generationAt c n .dealing) p ≡ x →
+      generationAt c n .range ≤ x → judged c gs n ≡ beyond (suc n)
   unfolding judged
-  judged-beyond gs p n x c l t h = rw (c, t, eq-eqb (length p) (getD hs n 0) l, le-ltb x (getD vs n 0) h)
+  judged-beyond gs p n x k l t h = rw (k, t, eq-eqb (length p) (generationAt c n .places) l, le-ltb x (generationAt c n .range) h)
 
-  read-is : (gs p : List ℕ) (n x : ℕ) → 0 < written gs → past hs (zeros gs) ≡ n → carriers e n gs ≡ p → length p ≡ getD hs n 0 →
-      told e (base e n) (fewest first n) (getD hs (suc n) 0) p ≡ x → x < getD vs n 0 → read e first hs vs gs ≡ reads (suc n) x
-  read-is gs p n x w a c l t h = read-judged gs n w a ∙ judged-reads gs p n x c l t h
+  read-is : (gs p : List ℕ) (n x : ℕ) → 0 < written gs → past (c .counts) (zeros gs) ≡ n → carriers (erased c) n gs ≡ p → length p ≡ generationAt c n .places →
+      told (generationAt c n .dealing) p ≡ x → x < generationAt c n .range → read c gs ≡ reads (suc n) x
+  read-is gs p n x w a k l t h = read-judged gs n w a ∙ judged-reads gs p n x k l t h
 
-  pub blank-read : (gs : List ℕ) → read e first hs vs gs ≡ blank → written gs ≡ 0
+  pub blank-read : (gs : List ℕ) → read c gs ≡ blank → written gs ≡ 0
   unfolding judged
   blank-read gs r = elim (le-or-lt (written gs) 0) [
     | inl z ↦ omega arith
     | inr w ↦
-        let n = past hs (zeros gs) in
-        let xs = carriers e n gs in
-        let x = told e (base e n) (fewest first n) (getD hs (suc n) 0) xs in
-        absurd (judged-some (eqb (length xs) (getD hs n 0)) (ltb x (getD vs n 0)) (suc n) x (length xs) (sym (read-judged gs n w refl) ∙ r))
+        let n = past (c .counts) (zeros gs) in
+        let xs = carriers (erased c) n gs in
+        let x = told (generationAt c n .dealing) xs in
+        absurd (judged-some (eqb (length xs) (generationAt c n .places)) (ltb x (generationAt c n .range)) (suc n) x (length xs) (sym (read-judged gs n w refl) ∙ r))
   ]
 
-  pub read-past : (gs : List ℕ) (i y : ℕ) → read e first hs vs gs ≡ reads i y → i ≡ suc (past hs (zeros gs))
+  pub read-past : (gs : List ℕ) (i y : ℕ) → read c gs ≡ reads i y → i ≡ suc (past (c .counts) (zeros gs))
   unfolding judged
   read-past gs i y r = elim (le-or-lt (written gs) 0) [
     | inl z ↦ clash (cc (read-blank gs (omega arith)))
     | inr w ↦
-        let n = past hs (zeros gs) in
-        let xs = carriers e n gs in
-        let x = told e (base e n) (fewest first n) (getD hs (suc n) 0) xs in
-        judged-which (eqb (length xs) (getD hs n 0)) (ltb x (getD vs n 0)) (suc n) x (length xs) i y (sym (read-judged gs n w refl) ∙ r)
+        let n = past (c .counts) (zeros gs) in
+        let xs = carriers (erased c) n gs in
+        let x = told (generationAt c n .dealing) xs in
+        judged-which (eqb (length xs) (generationAt c n .places)) (ltb x (generationAt c n .range)) (suc n) x (length xs) i y (sym (read-judged gs n w refl) ∙ r)
   ]
 
   -- Where a write goes.
-  pub write-read : (x : ℕ) (gs : List ℕ) (r : Reading) → read e first hs vs gs ≡ r → write e first hs vs x gs ≡ writeOn e first hs vs x gs r
+  pub write-read : (x : ℕ) (gs : List ℕ) (r : Reading) → read c gs ≡ r → write c x gs ≡ writeOn c x gs r
   unfolding write
   write-read x gs r q = rw q
 
-  pub write-blank : (x : ℕ) (gs : List ℕ) → written gs ≡ 0 → write e first hs vs x gs ≡ writeAt e first hs vs x gs 0
+  pub write-blank : (x : ℕ) (gs : List ℕ) → written gs ≡ 0 → write c x gs ≡ writeAt c x gs 0
   unfolding writeOn
   write-blank x gs z = write-read x gs blank (read-blank gs z)
 
-  pub write-taken : (x : ℕ) (gs : List ℕ) (n : ℕ) → n < length hs → x < getD vs n 0 → writeAt e first hs vs x gs n ≡ wrote (suc n) (after e first hs n x gs)
+  pub write-taken : (x : ℕ) (gs : List ℕ) (n : ℕ) → n < length (c .counts) → x < generationAt c n .range → writeAt c x gs n ≡ wrote (suc n) (after c n x gs)
   unfolding writeAt
-  write-taken x gs n l h = rw (lt-ltb n (length hs) l, lt-ltb x (getD vs n 0) h)
+  write-taken x gs n l h = rw (lt-ltb n (length (c .counts)) l, lt-ltb x (generationAt c n .range) h)
 
-  write-at : (x : ℕ) (gs : List ℕ) (n i : ℕ) (gs′ : List ℕ) → writeAt e first hs vs x gs n ≡ wrote i gs′ →
-      (n < length hs) × (x < getD vs n 0) × (i ≡ suc n) × (gs′ ≡ after e first hs n x gs)
+  write-at : (x : ℕ) (gs : List ℕ) (n i : ℕ) (gs′ : List ℕ) → writeAt c x gs n ≡ wrote i gs′ →
+      (n < length (c .counts)) × (x < generationAt c n .range) × (i ≡ suc n) × (gs′ ≡ after c n x gs)
   unfolding writeAt
   write-at x gs n i gs′ w =
-      let q = both (ltb n (length hs)) (ltb x (getD vs n 0)) (suc n) (after e first hs n x gs) i gs′ w in
-      (ltb-true n (length hs) (q .0), ltb-true x (getD vs n 0) (q .1), q .2, q .3)
+      let q = both (ltb n (length (c .counts))) (ltb x (generationAt c n .range)) (suc n) (after c n x gs) i gs′ w in
+      (ltb-true n (length (c .counts)) (q .0), ltb-true x (generationAt c n .range) (q .1), q .2, q .3)
 
   -- what a write of x at generation n + 1 leaves
   pub record After (n x : ℕ) (gs gs′ : List ℕ) : Type 0 where
     pub long : length gs′ ≡ length gs
-    pub small : Upto e gs′
-    pub back : 0 < written gs′ → read e first hs vs gs′ ≡ reads (suc n) x
-    pub tells : told e (base e n) (fewest first n) (getD hs (suc n) 0) (carriers e n gs′) ≡ x
-    pub ready : getD hs (suc n) 0 ≤ zeros gs′
-    pub marked : fewest first n ≤ written gs′
-    pub grows : Grows e gs gs′
+    pub small : Upto (erased c) gs′
+    pub back : 0 < written gs′ → read c gs′ ≡ reads (suc n) x
+    pub tells : told (generationAt c n .dealing) (carriers (erased c) n gs′) ≡ x
+    pub ready : generationAt c n .next ≤ zeros gs′
+    pub marked : 0 < n + c .first → 0 < written gs′
+    pub grows : Grows (erased c) gs gs′
 
   -- what an accepted write of x at generation i leaves
   pub record Wrote (x : ℕ) (gs : List ℕ) (i : ℕ) (gs′ : List ℕ) : Type 0 where
-    pub reading : Tells first (read e first hs vs gs′) i x
+    pub reading : Tells (c .first) (read c gs′) i x
     pub long : length gs′ ≡ length gs
-    pub small : Upto e gs′
-    pub grows : Grows e gs gs′
+    pub small : Upto (erased c) gs′
+    pub grows : Grows (erased c) gs gs′
 
-  module _ (y : Layout e first hs vs) where
-    pub pictured : (n x : ℕ) → n < length hs → x < getD vs n 0 →
-        Pictured e (base e n) (fewest first n) (getD hs n 0) (getD hs (suc n) 0) x (pattern e (base e n) (fewest first n) (getD hs n 0) (getD hs (suc n) 0) x)
-    pictured n x nl hx =
-        let q = base-bounds e first n (y .wide) (y .form) in
-        pattern-is e (base e n) (fewest first n) (getD hs n 0) (getD hs (suc n) 0) x (q .0) (q .1) (omega (arith, y .wide)) (q .2)
-        (holds-falls e e first hs vs n (y .holds) nl) (omega (arith, holds-room e first hs vs n (y .holds) nl))
+  module _ (y : Layout c) where
+    points : (n z : ℕ) → generationAt c n .next ≤ z → (n ≡ 0) ⊎ (z < generationAt c n .places) → past (c .counts) z ≡ n
+    points n z = past-is (erased c) (erased c) (c .first) (c .counts) (c .ranges) n z (y .holds)
 
-    pub after-is : (n x : ℕ) (gs : List ℕ) → n < length hs → x < getD vs n 0 → length gs ≡ getD hs 0 0 → Ready hs n gs → After n x gs (after e first hs n x gs)
-    unfolding after cleared base fewest carriers
+    pub after-is : (n x : ℕ) (gs : List ℕ) → n < length (c .counts) → x < generationAt c n .range → length gs ≡ width c → Ready (c .counts) n gs →
+        After n x gs (after c n x gs)
+    unfolding after cleared carriers dealt
     after-is zero x gs nl hx l r =
-        let p = pattern e (base e 0) (fewest first 0) (getD hs 0 0) (getD hs 1 0) x in
-        let q = pictured 0 x nl hx in
+        let g = generationAt c 0 in
+        let p = pattern (g .dealing) (g .places) x in
+        let e = erased c in
+        let q = pattern-is e e (c .first) (g .places) (g .next) x (omega (arith, y .wide)) (omega arith) (omega (arith, y .wide)) (y .form) (falls c y 0 nl)
+        (omega (arith, fits c y 0 nl)) in
         let same : lay gs p ≡ p = lay-blank gs p r (q .long ∙ sym l) in
         rw same (record {
           long = q .long ∙ sym l;
           small = q .small;
-          back = λ w. read-is p p 0 x w (past-is e e first hs vs 0 (zeros p) (y .holds) (q .keeps) (inl refl)) refl (q .long) (q .back) hx;
+          back = λ w. read-is p p 0 x w (points 0 (zeros p) (q .keeps) (inl refl)) refl (q .long) (q .back) hx;
           tells = q .back;
           ready = q .keeps;
-          marked = q .low;
-          grows = rw same at (lay-grows e gs p);
+          marked = λ f. omega (arith, q .low);
+          grows = rw same at (lay-grows (erased c) gs p);
         })
     after-is (suc n) x gs nl hx l r =
-        let h = getD hs (suc n) 0 in
-        let p = pattern e (base e (suc n)) (fewest first (suc n)) h (getD hs (suc (suc n)) 0) x in
-        let q = pictured (suc n) x nl hx in
-        let k = zeros gs - h in
+        let e = erased c in
+        let g = generationAt c (suc n) in
+        let p = pattern (g .dealing) (g .places) x in
+        let q = pattern-is e (e - 1) 1 (g .places) (g .next) x (omega (arith, y .wide)) (omega arith) (omega (arith, y .wide)) (omega arith) (falls c y (suc n) nl)
+        (omega (arith, fits c y (suc n) nl)) in
+        let k = zeros gs - g .places in
         let pos : 0 < e = omega (arith, y .wide) in
         let gs′ = lay (erase e k gs) p in
         let a = lay-is e (erase e k gs) p pos (erase-wiped e k gs) (omega (arith, q .long, erase-zeros e k gs pos)) (q .small) in
-        let z : zeros p < h = omega (arith, zeros-written p, q .long, q .low) in
+        let z : zeros p < g .places = omega (arith, zeros-written p, q .long, q .low) in
         record {
           long = a .long ∙ erase-length e k gs;
           small = a .small;
-          back = λ w. read-is gs′ p (suc n) x w (past-is e e first hs vs (suc n) (zeros gs′) (y .holds) (rw (a .left) (q .keeps)) (inr (rw (a .left) z)))
-              (a .carried) (q .long) (q .back) hx;
+          back = λ w. read-is gs′ p (suc n) x w (points (suc n) (zeros gs′) (rw (a .left) (q .keeps)) (inr (rw (a .left) z))) (a .carried) (q .long) (q .back) hx;
           tells = rw (a .carried) (q .back);
           ready = rw (a .left) (q .keeps);
-          marked = omega (arith, a .left, a .long, erase-length e k gs, zeros-written gs′, head-most e e first hs vs (suc n) (y .holds));
+          marked = λ f. omega (arith, a .left, a .long, erase-length e k gs, zeros-written gs′, head-most e e (c .first) (c .counts) (c .ranges) (suc n) (y .holds));
           grows = erase-lay-grows e k gs p pos;
         }
 
-    -- cells that a write leaves blank were written at generation 1 with number 0, where that writes no place
-    after-blank : (n x : ℕ) (gs gs′ : List ℕ) → After n x gs gs′ → written gs′ ≡ 0 → (first ≡ 0) × (n ≡ 0) × (x ≡ 0)
-    unfolding fewest base carriers
-    after-blank zero x gs gs′ a z = (
-      omega (arith, a .marked),
-      refl,
-      sym (a .tells) ∙ told-before e e first (getD hs 1 0) gs′ (omega (arith, holds-falls e e first hs vs 1 (y .holds) (y .two)))
-          ∙ blank-number e first gs′ z,
-    )
-    after-blank (suc n) x gs gs′ a z = absurd (omega (arith, a .marked))
+    -- generation 1 deals patterns
+    pub first-tells : (x : ℕ) (gs gs′ : List ℕ) → After 0 x gs gs′ → number (erased c) (c .first) gs′ ≡ x
+    unfolding told carriers dealt
+    first-tells x gs gs′ a =
+        rw (deals-before (erased c) (erased c) (c .first) (getD (c .counts) 1 0) (omega (arith, falls c y 1 (y .two)))) at (a .tells)
 
-    pub after-tells : (n x : ℕ) (gs gs′ : List ℕ) → After n x gs gs′ → Tells first (read e first hs vs gs′) (suc n) x
+    -- cells that a write leaves blank were written at generation 1 with number 0, where that writes no place
+    after-blank : (n x : ℕ) (gs gs′ : List ℕ) → After n x gs gs′ → written gs′ ≡ 0 → (c .first ≡ 0) × (n ≡ 0) × (x ≡ 0)
+    after-blank zero x gs gs′ a z = elim (le-or-lt (c .first) 0) [
+      | inl f ↦ (omega arith, refl, sym (first-tells x gs gs′ a) ∙ blank-number (erased c) (c .first) gs′ z)
+      | inr f ↦ absurd (omega (arith, a .marked (omega arith)))
+    ]
+    after-blank (suc n) x gs gs′ a z = absurd (omega (arith, a .marked (omega arith)))
+
+    pub after-tells : (n x : ℕ) (gs gs′ : List ℕ) → After n x gs gs′ → Tells (c .first) (read c gs′) (suc n) x
     after-tells n x gs gs′ a = elim (le-or-lt (written gs′) 0) [
       | inl z ↦ let q = after-blank n x gs gs′ a (omega arith) in rw (read-blank gs′ (omega arith)) (q .0, ap suc (q .1), q .2)
       | inr w ↦ rw (a .back w) (refl, refl)
     ]
 
     -- An accepted write reads back as its generation and number.
-    pub write-is : (x : ℕ) (gs : List ℕ) (i : ℕ) (gs′ : List ℕ) → length gs ≡ getD hs 0 0 → write e first hs vs x gs ≡ wrote i gs′ → Wrote x gs i gs′
+    pub write-is : (x : ℕ) (gs : List ℕ) (i : ℕ) (gs′ : List ℕ) → length gs ≡ width c → write c x gs ≡ wrote i gs′ → Wrote x gs i gs′
     unfolding writeOn
-    write-is x gs i gs′ l w = by (read e first hs vs gs) refl
+    write-is x gs i gs′ l w = by (read c gs) refl
       where
-        at : (n : ℕ) → Ready hs n gs → writeAt e first hs vs x gs n ≡ wrote i gs′ → Wrote x gs i gs′
+        at : (n : ℕ) → Ready (c .counts) n gs → writeAt c x gs n ≡ wrote i gs′ → Wrote x gs i gs′
         at n r h =
             let q = write-at x gs n i gs′ h in
             let a = after-is n x gs (q .0) (q .1) l r in
-            rw (q .2, q .3) (record { reading = after-tells n x gs (after e first hs n x gs) a; long = a .long; small = a .small; grows = a .grows })
+            rw (q .2, q .3) (record { reading = after-tells n x gs (after c n x gs) a; long = a .long; small = a .small; grows = a .grows })
 
-        none : write e first hs vs x gs ≡ refused → Wrote x gs i gs′
+        none : write c x gs ≡ refused → Wrote x gs i gs′
         none h = clash (cc)
 
-        by : (r : Reading) → read e first hs vs gs ≡ r → Wrote x gs i gs′
+        by : (r : Reading) → read c gs ≡ r → Wrote x gs i gs′
         by blank h = at 0 (blank-read gs h) (sym (write-read x gs blank h) ∙ w)
         by (miscounted j u) h = none (write-read x gs (miscounted j u) h)
         by (beyond j) h = none (write-read x gs (beyond j) h)
         by (reads j y) h =
             let q = read-past gs j y h in
-            at (suc (past hs (zeros gs))) (past-next hs (zeros gs)) (rw q at (sym (write-read x gs (reads j y) h) ∙ w))
+            at (suc (past (c .counts) (zeros gs))) (past-next (c .counts) (zeros gs)) (rw q at (sym (write-read x gs (reads j y) h) ∙ w))

@@ -8,15 +8,16 @@ use lib.Pow.{pow-mono}
 use lib.Dec.{leb}
 use borrow.Author.Tests.{le-leb, leb-true}
 use Rattle.code.specs.Count.{least}
-use Rattle.code.specs.Layout.{room, Meets, counts, grant}
+use Rattle.code.specs.Code.{room, deals}
+use Rattle.code.specs.Layout.{roomBy, Meets, counts, grant}
 use Rattle.code.specs.Lists.{Rises}
 use Rattle.code.proofs.Tests.{least-low, least-le, least-passes}
 use Rattle.code.proofs.Count.{fewer-grows}
 use Rattle.code.proofs.Conditions.{Holds, Layout, meets-holds, holds-meets}
 
 -- a lower next count leaves more room
-room-grows : (e b first h c h′ : ℕ) → c ≤ h′ → (c ≡ 0 → h′ ≡ 0) → room e b first h h′ ≤ room e b first h c
-unfolding room
+room-grows : (e b first h c h′ : ℕ) → c ≤ h′ → (c ≡ 0 → h′ ≡ 0) → roomBy e b first h h′ ≤ roomBy e b first h c
+unfolding room deals
 room-grows e b first h zero zero l z = omega arith
 room-grows e b first h zero (suc h′) l z = absurd (omega (arith, z refl))
 room-grows e b first h (suc c) zero l z = absurd (omega arith)
@@ -34,7 +35,7 @@ none-left fuel e b first [] vs m z = refl
 none-left fuel e b first (h ∷ hs) [] m z = absurd m
 none-left fuel e b first (h ∷ hs) (v ∷ vs) m z =
     let c = getD (counts fuel e (e - 1) 1 vs) 0 0 in
-    absurd (omega (arith, z, least-low (λ (k : ℕ). leb v (room e b first k c)) (suc c) fuel))
+    absurd (omega (arith, z, least-low (λ (k : ℕ). leb v (roomBy e b first k c)) (suc c) fuel))
 
 pub counts-least : (fuel e b first : ℕ) (hs vs : List ℕ) → Holds e b first hs vs → Rises (counts fuel e b first vs) hs
 unfolding Holds counts
@@ -46,17 +47,17 @@ counts-least fuel e b first (h ∷ hs) (v ∷ vs) m =
     let c = getD (counts fuel e (e - 1) 1 vs) 0 0 in
     let l = rises-head (counts fuel e (e - 1) 1 vs) hs ih in
     let g = room-grows e b first h c (getD hs 0 0) l (none-left fuel e (e - 1) 1 hs vs (m .2)) in
-    (least-le (λ (k : ℕ). leb v (room e b first k c)) (suc c) fuel h (omega (arith, m .0)) (le-leb v (room e b first h c) (omega (arith, m .1))), ih)
+    (least-le (λ (k : ℕ). leb v (roomBy e b first k c)) (suc c) fuel h (omega (arith, m .0)) (le-leb v (roomBy e b first h c) (omega (arith, m .1))), ih)
 
 pub counts-hold : (fuel e b first : ℕ) (vs : List ℕ) → getD (counts fuel e b first vs) 0 0 ≤ fuel → Holds e b first (counts fuel e b first vs) vs
 unfolding Holds counts
 counts-hold fuel e b first [] h = tt
 counts-hold fuel e b first (v ∷ vs) h =
     let c = getD (counts fuel e (e - 1) 1 vs) 0 0 in
-    let low = least-low (λ (k : ℕ). leb v (room e b first k c)) (suc c) fuel in (
+    let low = least-low (λ (k : ℕ). leb v (roomBy e b first k c)) (suc c) fuel in (
       low,
-      leb-true v (room e b first (least (λ (k : ℕ). leb v (room e b first k c)) (suc c) fuel) c)
-          (least-passes (λ (k : ℕ). leb v (room e b first k c)) (suc c) fuel (omega arith)),
+      leb-true v (roomBy e b first (least (λ (k : ℕ). leb v (roomBy e b first k c)) (suc c) fuel) c)
+          (least-passes (λ (k : ℕ). leb v (roomBy e b first k c)) (suc c) fuel (omega arith)),
       counts-hold fuel e (e - 1) 1 vs (omega arith),
     )
 
@@ -87,7 +88,7 @@ module _ (g m first : ℕ) (vs : List ℕ) (t2 : 2 ≤ length vs) (fits : getD (
   unfolding grant
   grant-meets = holds-meets m first (counts g (2 ^ m - 1) (2 ^ m - 1) first vs) vs t2 (counts-hold g (2 ^ m - 1) (2 ^ m - 1) first vs fits)
 
-  pub grant-fits : 2 ≤ m → first ≤ 1 → Layout (2 ^ m - 1) first (grant g m first vs) vs
-  grant-fits m2 f =
+  pub grant-fits : (order : ℕ) → 2 ≤ m → first ≤ 1 → Layout (record { order = order; m = m; first = first; counts = grant g m first vs; ranges = vs })
+  grant-fits order m2 f =
       let q = grant-length g m first vs in
       record { wide = omega (arith, pow-mono m2); form = f; two = omega arith; holds = meets-holds m first (grant g m first vs) vs t2 grant-meets }

@@ -7,7 +7,7 @@ use lib.ListN.{length, getD, take, drop, replicate, length-replicate}
 use lib.Seq.{take-append-seam}
 use borrow.Author.Tests.{lt-ltb, le-ltb}
 use Rattle.code.specs.Lists.{Below}
-use Rattle.code.specs.Calls.{refusal, answer, leaves}
+use Rattle.code.specs.Calls.{refusal, answer, leaves, lengthIn}
 use Rattle.code.specs.Hex.{hexText, hexExportRefusal, hexExportReply, hexExportLeaves}
 use Rattle.code.specs.Hex.{faulty, gives, hexImport, bytesOf, importRefusal, hexImportReply, hexImportLeaves}
 use Rattle.code.proofs.HexImport.{export-import, import-held}
@@ -59,20 +59,20 @@ module _ (text out : List ℕ) where
 
 -- "Export then import gives the same cells", of the calls: the text is what the export stored
 pub calls-round : (bytes out back : List ℕ) → Below 256 bytes → length bytes ≤ 65536 → length (hexText bytes) ≤ length out → length bytes ≤ length back →
-    HexImports (take (getD (hexExportReply bytes out) 1 0) (hexExportLeaves bytes out)) back (0 ∷ length bytes ∷ []) (bytes ++ drop (length bytes) back)
+    HexImports (take (lengthIn (hexExportReply bytes out)) (hexExportLeaves bytes out)) back (0 ∷ length bytes ∷ []) (bytes ++ drop (length bytes) back)
 calls-round bytes out back u few room fits =
     let x = export-stored bytes out few room in
-    let stored : take (getD (hexExportReply bytes out) 1 0) (hexExportLeaves bytes out) ≡ hexText bytes =
+    let stored : take (lengthIn (hexExportReply bytes out)) (hexExportLeaves bytes out) ≡ hexText bytes =
     rw (← (x .0), ← (x .1)) (take-append-seam (hexText bytes) (drop (length (hexText bytes)) out)) in
     rw stored (import-stored (hexText bytes) back bytes (export-import bytes u few) fits)
 
 -- "import then export gives one standard file", of the calls: what an import stored is exported as the one text of these bytes
 pub calls-standard : (text bytes out back : List ℕ) → hexImport text ≡ gives bytes → length bytes ≤ length out → length (hexText bytes) ≤ length back →
-    HexExports (take (getD (hexImportReply text out) 1 0) (hexImportLeaves text out)) back
+    HexExports (take (lengthIn (hexImportReply text out)) (hexImportLeaves text out)) back
     (0 ∷ length (hexText bytes) ∷ []) (hexText bytes ++ drop (length (hexText bytes)) back)
 calls-standard text bytes out back h fits room =
     let x = import-stored text out bytes h fits in
-    let stored : take (getD (hexImportReply text out) 1 0) (hexImportLeaves text out) ≡ bytes =
+    let stored : take (lengthIn (hexImportReply text out)) (hexImportLeaves text out) ≡ bytes =
     rw (← (x .0), ← (x .1)) (take-append-seam bytes (drop (length bytes) out)) in
     rw stored (export-stored bytes back (import-held text bytes h .1) room)
 

@@ -10,13 +10,13 @@ use lib.Dec.{ltb}
 use borrow.Author.Tests.{ne-eqb, ltb-true}
 use Rattle.code.specs.Lists.{Below, listSum}
 use Rattle.code.specs.Calls.{refusal}
-use Rattle.code.specs.Dump.{ascii}
+use Rattle.code.specs.Lists.{ascii}
 use Rattle.code.specs.Hex.{dataLine, dataLines, lineCount, endRecord, hexText, digitNumber, spelledByte, spelledBytes, lineBytes}
 use Rattle.code.specs.Hex.{dataCount, dataAddress, lineType, lineData, lineEnd, behindBytes, nextLine, allSpelled, misshapen, ladenEnd, wrongSum}
 use Rattle.code.specs.Lists.{same}
 use Rattle.code.specs.Hex.{displaced, lineRefusal, isEnd, Import, faulty, gives, closed, importFrom, hexImport, bytesOf}
 use Rattle.code.proofs.Tests.{both-true, clash}
-use Rattle.code.specs.HexLine.{Shaped}
+use Rattle.code.proofs.HexLines.{Shaped}
 use Rattle.code.proofs.HexLines.{line-passed, next-length, data-length, passed-few}
 use Rattle.code.proofs.ByteLists.{below-append}
 use Rattle.code.proofs.HexText.{line-next, line-data, line-accepted, line-open}

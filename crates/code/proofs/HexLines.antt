@@ -11,13 +11,26 @@ use lib.Seq.{getD-take, getD-drop, drop-drop}
 use lib.Dec.{leb, ltb, eqb}
 use borrow.Author.Tests.{lt-ltb, le-ltb, le-leb, lt-leb, eq-eqb, ne-eqb, ltb-true, ltb-false, leb-true, eqb-true, eqb-false, not-false}
 use Rattle.code.specs.Calls.{refusal}
-use Rattle.code.specs.Dump.{ascii}
+use Rattle.code.specs.Lists.{ascii}
 use Rattle.code.specs.Hex.{endRecord, digitNumber, spelledByte, spelledBytes, lineBytes, dataCount, dataAddress, lineType, lineData}
 use Rattle.code.specs.Lists.{same, listSum}
 use Rattle.code.specs.Hex.{lineEnd, behindBytes, nextLine, allSpelled, misshapen, ladenEnd, wrongSum, displaced, lineRefusal, isEnd}
-use Rattle.code.specs.HexLine.{byteAt, lineSize, Shaped}
 use Rattle.code.proofs.Tests.{le-or-lt, both-true, clash}
 use Rattle.code.proofs.LayoutCall.{passed}
+
+-- byte i behind a line's colon
+abbrev pub byteAt : List ℕ → ℕ → ℕ
+byteAt line i = spelledByte (getD line (2 * i + 1) 0) (getD line (2 * i + 2) 0)
+
+-- the characters of a line with its end
+abbrev pub lineSize : List ℕ → ℕ
+lineSize line = 11 + 2 * dataCount line + lineEnd (drop (11 + 2 * dataCount line) line)
+
+-- a line whose shape is not "bad"
+pub record Shaped (line : List ℕ) : Type 0 where
+  pub colon : getD line 0 0 ≡ 58
+  pub bytes : allSpelled (lineBytes line) ≡ true
+  pub finish : 0 < lineEnd (drop (11 + 2 * dataCount line) line)
 
 pub spelled-length : (n : ℕ) (text : List ℕ) → length (spelledBytes n text) ≡ n
 unfolding spelledBytes

@@ -10,7 +10,7 @@ use lib.Seq.{drop-at, take-at}
 use lib.Dec.{leb, eqb}
 use borrow.Author.Tests.{lt-ltb, le-ltb, le-leb, lt-leb, eq-eqb}
 use Rattle.code.specs.Lists.{Below, listSum}
-use Rattle.code.specs.Dump.{ascii}
+use Rattle.code.specs.Lists.{ascii}
 use Rattle.code.specs.Hex.{hexDigit, hexDigits, sumByte, hexLine, dataLine, dataLines, lineCount, endRecord, hexText}
 use Rattle.code.specs.Hex.{digitNumber, spelledByte, spelledBytes, lineBytes, dataCount, dataAddress, lineType, lineData, lineEnd, behindBytes}
 use Rattle.code.specs.Hex.{nextLine, allSpelled, misshapen, wrongSum, lineRefusal, isEnd}

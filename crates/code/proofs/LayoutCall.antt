@@ -11,14 +11,25 @@ use lib.Seq.{take-at, getD-take, ext-getD}
 use lib.Dec.{leb, eqb}
 use borrow.Author.Tests.{le-leb, lt-ltb, le-ltb, ltb-false, leb-true, eq-eqb, ne-eqb, eqb-true, not-false}
 use Rattle.code.specs.declared.Shape.{Shape}
-use Rattle.code.specs.Shape.{firstOf, rangesDue, given, rangesOf, allRanges, outside, Bounds, granted, misfit, countsOf, widthOf}
-use Rattle.code.specs.Calls.{filled, readFields, layoutFields, refusal, answer, layoutRefusal, layoutReply}
+use Rattle.code.specs.Shape.{firstOf, rangesDue, given, rangesOf, allRanges, outside, granted, misfit, countsOf, widthOf, codeOf, orderOf}
+use Rattle.code.specs.Calls.{filled, readFields, layoutFields, refusal, answer, layoutRefusal, layoutReply, generationIn, refusalIn, unerasedIn}
 use Rattle.code.proofs.Tests.{both-true, clash}
 use Rattle.code.proofs.Numbers.{listed-length, listed-at}
 use Rattle.code.proofs.Cells.{upto-all}
 use Rattle.code.proofs.Conditions.{Layout}
 use Rattle.code.proofs.Grant.{grant-length, grant-fits}
 use Rattle.code.proofs.CountSteps.{steps-few}
+
+-- the bounds of the form, m, t and the ranges as facts (RULES 1)
+pub record Bounds (s : Shape) : Type 0 where
+  pub form-high : s .form ≤ 2
+  pub m-low : 2 ≤ s .m
+  pub m-high : s .m ≤ 4
+  pub t-low : 2 ≤ s .t
+  pub t-high : s .t ≤ 16
+  pub due : s .count ≡ rangesDue (s .form) (s .t)
+  pub v-low : (i : ℕ) → i < s .count → 2 ≤ getD (s .v) i 0
+  pub v-high : (i : ℕ) → i < s .count → getD (s .v) i 0 ≤ 2 ^ 56
 
 -- the shape and g within their bounds
 pub record Within (s : Shape) (g : ℕ) : Type 0 where
@@ -206,9 +217,9 @@ module _ (s : Shape) (ok : layoutRefusal s 256 ≡ []) where
   unfolding misfit widthOf countsOf
   fits = ltb-false 256 (getD (granted s 256) 0 0) (layout-none s 256 ok .1)
 
-  pub is-layout : Layout (2 ^ s .m - 1) (firstOf s) (countsOf s) (rangesOf s)
+  pub is-layout : Layout (codeOf s)
   unfolding countsOf granted widthOf
-  is-layout = grant-fits 256 (s .m) (firstOf s) (rangesOf s) (omega (arith, bounded .t-low, ranges-length s bounded)) fits (bounded .m-low) (first-form s)
+  is-layout = grant-fits 256 (s .m) (firstOf s) (rangesOf s) (omega (arith, bounded .t-low, ranges-length s bounded)) fits (orderOf s) (bounded .m-low) (first-form s)
 
   -- no generation writes more places than 57
   pub counts-near : (i : ℕ) → getD (countsOf s) i 0 ≤ getD (countsOf s) (suc i) 0 + 57
@@ -244,9 +255,9 @@ filled-length n reply = simp (length-take, length-append, length-replicate) (ome
 -- the fields of a reading are five
 pub read-fields-length : (reply : List ℕ) → length (readFields reply) ≡ 5
 unfolding readFields
-read-fields-length reply = go (eqb (getD reply 0 0) 0)
+read-fields-length reply = go (eqb (refusalIn reply) 0)
   where
-    go : (b : Bool) → length (cond b (filled 5 reply) (getD reply 0 0 ∷ getD reply 1 0 ∷ 0 ∷ 0 ∷ getD reply 2 0 ∷ [])) ≡ 5
+    go : (b : Bool) → length (cond b (filled 5 reply) (refusalIn reply ∷ generationIn reply ∷ 0 ∷ 0 ∷ unerasedIn reply ∷ [])) ≡ 5
     go true = filled-length 5 reply
     go false = refl
 

@@ -11,10 +11,10 @@ use lib.ListN.{length, getD, take, drop, length-append, take-append-drop}
 use lib.Seq.{take-at, drop-at, drop-drop}
 use borrow.Author.Tests.{not-false, ne-eqb}
 use Rattle.code.specs.declared.Shape.{Shape}
-use Rattle.code.specs.Shape.{firstOf, rangesOf, orderOf, outside, granted, misfit, countsOf, widthOf}
+use Rattle.code.specs.Shape.{firstOf, rangesOf, orderOf, outside, granted, misfit, countsOf, widthOf, codeOf}
 use Rattle.code.specs.Cells.{wit, sound, ones}
 use Rattle.code.specs.Lists.{listSum}
-use Rattle.code.specs.Calls.{refusal, answer, passes, leaves, layoutRefusal, unsound, fieldRead, left, readReply}
+use Rattle.code.specs.Calls.{refusal, answer, passes, leaves, layoutRefusal, unsound, fieldRead, left, readReply, refusalIn, turnedIn}
 use Rattle.code.specs.Calls.{writeRefusal, writeReply, turnedBy, writeLeaves}
 use Rattle.code.specs.Many.{fieldBytes, manyReplies, manyCells, manyRefusal, madeReplies, stopReply, manyLeaves}
 use Rattle.code.proofs.Tests.{clash}
@@ -37,11 +37,11 @@ module _ (s : Shape) (x : ℕ) (bs : List ℕ) where
 
   -- what an accepted write tells: its layout is granted, its field is as long as the layout says, and it leaves as many bytes
   module _ (z : writeRefusal s x bs ≡ []) where
-    accepted-reply : eqb (getD (writeReply s x bs) 0 0) 0 ≡ true
+    accepted-reply : eqb (refusalIn (writeReply s x bs)) 0 ≡ true
     unfolding writeReply answer
     accepted-reply = rw z
 
-    accepted-turned : turnedBy (writeReply s x bs) ≡ getD (writeReply s x bs) 2 0
+    accepted-turned : turnedBy (writeReply s x bs) ≡ turnedIn (writeReply s x bs)
     unfolding turnedBy
     accepted-turned = rw accepted-reply
 
@@ -61,8 +61,8 @@ module _ (s : Shape) (x : ℕ) (bs : List ℕ) where
     leaves-are =
         let ok = accepted-tests .0 in
         let some : 0 < s .m = omega (arith, bounded s ok .m-low) in
-        let long = tried-long (orderOf s) (s .m) (firstOf s) (countsOf s) (rangesOf s) (is-layout s ok) some x bs in
-        rw (leaves-is s ok x bs) (long, λ B. tried-is (orderOf s) (s .m) (firstOf s) (countsOf s) (rangesOf s) (is-layout s ok) some x bs B .0)
+        let long = tried-long (codeOf s) (is-layout s ok) some x bs in
+        rw (leaves-is s ok x bs) (long, λ B. tried-is (codeOf s) (is-layout s ok) some x bs B .0)
 
 -- a write leaves as many bytes as it was lent
 pub leaves-length : (s : Shape) (x : ℕ) (bs : List ℕ) → length (writeLeaves s x bs) ≡ length bs
@@ -260,7 +260,7 @@ module _ (s : Shape) where
 
   -- ".. also in the turned counts": those answered add up to the ones that the cells gain.
   pub turned-sum : (xs bytes : List ℕ) → Bytes bytes →
-      listSum (map (λ reply. getD reply 2 0) (madeReplies (manyReplies s xs bytes))) + ones (orderOf s) bytes ≡ ones (orderOf s) (manyCells s xs bytes)
+      listSum (map (λ reply. turnedIn reply) (madeReplies (manyReplies s xs bytes))) + ones (orderOf s) bytes ≡ ones (orderOf s) (manyCells s xs bytes)
   unfolding manyReplies manyCells madeReplies listSum
   turned-sum [] bytes B = omega arith
   turned-sum (x ∷ xs) bytes B = elim (stops-or-goes x xs bytes) [
@@ -275,7 +275,7 @@ module _ (s : Shape) where
 
   -- The same of the call, where it is not refused before any write.
   pub turned-left : (xs bytes : List ℕ) → Bytes bytes → manyRefusal s xs bytes ≡ [] →
-      listSum (map (λ reply. getD reply 2 0) (madeReplies (manyReplies s xs bytes))) + ones (orderOf s) bytes ≡ ones (orderOf s) (manyLeaves s xs bytes)
+      listSum (map (λ reply. turnedIn reply) (madeReplies (manyReplies s xs bytes))) + ones (orderOf s) bytes ≡ ones (orderOf s) (manyLeaves s xs bytes)
   turned-left xs bytes B q = rw (unbarred-leaves xs bytes q) (turned-sum xs bytes B)
 
   -- No cell goes from 1 to 0, whether a field is refused or not.

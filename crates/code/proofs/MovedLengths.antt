@@ -8,7 +8,8 @@ use lib.ListN.{length, getD, length-append}
 use Rattle.code.specs.declared.Kind.the-variants.{Old, New}
 use Rattle.code.specs.Numerals.{sevens, numeralsOf}
 use Rattle.code.specs.LayoutList.{Listed, listedNumbers, listedOf, layoutsOf}
-use Rattle.code.specs.Dump.{recordOf, ownLayouts, listedLayouts, walk}
+use Rattle.code.specs.Export.{recordOf}
+use Rattle.code.specs.Dump.{ownLayouts, listedLayouts, walk}
 use Rattle.code.specs.NewDump.{Entry, entryHead, recordsOf, newDumpOf, stopOf, placeOf, joined, firstUse, numbered, toNew, toOld}
 use Rattle.code.proofs.Tests.{le-or-lt}
 use Rattle.code.proofs.Wits.{Bytes}

@@ -6,7 +6,8 @@ use lib.ListN.{length, getD, drop}
 use Rattle.code.specs.declared.Kind.the-variants.{Old, New}
 use Rattle.code.specs.Numerals.{numeralsOf}
 use Rattle.code.specs.LayoutList.{Listed, listedNumbers, layoutsOf}
-use Rattle.code.specs.Dump.{recordOf, Source, ownLayouts, listedLayouts, Step, taken, ended, stopped, cellsOf, walk}
+use Rattle.code.specs.Export.{recordOf}
+use Rattle.code.specs.Dump.{Source, ownLayouts, listedLayouts, Step, taken, ended, stopped, cellsOf, walk}
 use Rattle.code.specs.NewDump.{Entry, entryHead, recordsOf, newDumpOf, entriesOf, firstUse, numbered, toNew, toNewReply, toOld, toOldReply}
 use Rattle.code.proofs.Wits.{Bytes}
 use Rattle.code.proofs.ByteLists.{bytes-drop, bytes-take, bytes-append, bytes-none, numerals-bytes}
@@ -14,6 +15,7 @@ use Rattle.code.proofs.Records.{headOf}
 use Rattle.code.proofs.Told.{toldOf, toldBy, told-by}
 use Rattle.code.proofs.Settling.{first-settled}
 use Rattle.code.proofs.Moves.{entriesIn, new-told, old-told, there, back, SettledDump}
+use Rattle.code.specs.Calls.{refusalIn}
 
 told-numbered : (es : List Entry) (ls : List Listed) → toldBy (numbered ls es) ≡ toldBy es
 unfolding toldBy numbered
@@ -21,7 +23,7 @@ told-numbered [] ls = refl
 told-numbered (e ∷ es) ls = cc (told-numbered es ls)
 
 -- the walk of a moved dump tells the same serials, layouts, readings and cells in order
-pub moved-told : (bytes out : List ℕ) → Bytes bytes → getD (toNewReply bytes out) 0 0 ≡ 0 →
+pub moved-told : (bytes out : List ℕ) → Bytes bytes → refusalIn (toNewReply bytes out) ≡ 0 →
     toldOf (toNew bytes) (walk New (toNew bytes)) ≡ toldOf bytes (walk Old bytes)
 moved-told bytes out b e =
     let es : List Entry = entriesIn Old bytes in
@@ -29,7 +31,7 @@ moved-told bytes out b e =
     ∙ sym (told-by bytes (walk Old bytes))
 
 -- and so does the walk of a dump moved back
-pub back-told : (bytes out : List ℕ) → Bytes bytes → getD (toOldReply bytes out) 0 0 ≡ 0 →
+pub back-told : (bytes out : List ℕ) → Bytes bytes → refusalIn (toOldReply bytes out) ≡ 0 →
     toldOf (toOld bytes) (walk Old (toOld bytes)) ≡ toldOf bytes (walk New bytes)
 back-told bytes out b e =
     told-by (toOld bytes) (walk Old (toOld bytes)) ∙ ap toldBy (back bytes b (old-told bytes out e .0) .parsed) ∙ told-numbered (entriesIn New bytes) []
@@ -80,11 +82,11 @@ unfolding toOld
 old-bytes bytes b = records-bytes ownLayouts (entriesIn New bytes) (entries-bytes bytes (walk New bytes) b)
 
 -- a dump moved to new is settled
-pub moved-settled : (bytes out : List ℕ) → Bytes bytes → getD (toNewReply bytes out) 0 0 ≡ 0 → SettledDump (toNew bytes)
+pub moved-settled : (bytes out : List ℕ) → Bytes bytes → refusalIn (toNewReply bytes out) ≡ 0 → SettledDump (toNew bytes)
 moved-settled bytes out b e =
     let t = there bytes b (new-told bytes out e .0) in
     rw (t .listed, t .parsed) (first-settled (entriesIn Old bytes))
 
 -- so back and there gives the new bytes of settled dumps only
-pub only-settled : (bytes out : List ℕ) → Bytes bytes → getD (toNewReply (toOld bytes) out) 0 0 ≡ 0 → toNew (toOld bytes) ≡ bytes → SettledDump bytes
+pub only-settled : (bytes out : List ℕ) → Bytes bytes → refusalIn (toNewReply (toOld bytes) out) ≡ 0 → toNew (toOld bytes) ≡ bytes → SettledDump bytes
 only-settled bytes out b e q = rw q at (moved-settled (toOld bytes) out (old-bytes bytes b) e)

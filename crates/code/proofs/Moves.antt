@@ -9,7 +9,7 @@ use lib.ListN.{length, getD, take, drop}
 use borrow.Author.Tests.{lt-ltb, le-ltb, ltb-false}
 use Rattle.code.specs.declared.Kind.{Kind}
 use Rattle.code.specs.declared.Kind.the-variants.{Old, New}
-use Rattle.code.specs.Calls.{refusal, answer, leaves}
+use Rattle.code.specs.Calls.{refusal, answer, leaves, lengthIn, refusalIn}
 use Rattle.code.specs.LayoutList.{Listed, layoutList}
 use Rattle.code.specs.Dump.{ownLayouts, Step, taken, ended, stopped, step, walkFrom, walk}
 use Rattle.code.specs.NewDump.{Entry, recordsOf, newDumpOf, entriesOf, stopOf, listedIn, firstUse, numbered, foreign, firstRefusal, moveRefusal}
@@ -107,7 +107,7 @@ module _ (bytes out : List ℕ) where
   abbrev over : Bool
   over = ltb 64 (length (firstUse [] (entriesIn Old bytes)))
 
-  pub new-told : getD (toNewReply bytes out) 0 0 ≡ 0 → MovesNew bytes × (length (toNew bytes) ≤ length out)
+  pub new-told : refusalIn (toNewReply bytes out) ≡ 0 → MovesNew bytes × (length (toNew bytes) ≤ length out)
   unfolding toNewReply toNewRefusal
   new-told e =
       let m = move-told (stopOf (walk Old bytes)) 12 over (toNew bytes) out (walk-refuses Old bytes) e in
@@ -125,7 +125,7 @@ module _ (bytes out : List ℕ) where
     unfolding toNewReply toNewRefusal
     new-nine f = move-nine (stopOf (walk Old bytes)) 12 over (toNew bytes) out (m .whole) within (m .short) f
 
-  pub old-told : getD (toOldReply bytes out) 0 0 ≡ 0 → MovesOld bytes × (length (toOld bytes) ≤ length out)
+  pub old-told : refusalIn (toOldReply bytes out) ≡ 0 → MovesOld bytes × (length (toOld bytes) ≤ length out)
   unfolding toOldReply toOldRefusal
   old-told e =
       let m = move-told (stopOf (walk New bytes)) 11 (foreign (layoutsIn bytes)) (toOld bytes) out (walk-refuses New bytes) e in
@@ -143,27 +143,27 @@ module _ (bytes out : List ℕ) where
     old-nine f = move-nine (stopOf (walk New bytes)) 11 (foreign (layoutsIn bytes)) (toOld bytes) out (m .whole) (m .plain) (m .short) f
 
   -- a refusal "stores nothing in cells or output"
-  pub new-refused-stores : (getD (toNewReply bytes out) 0 0 ≡ 0 → ⊥) → toNewLeaves bytes out ≡ out
+  pub new-refused-stores : (refusalIn (toNewReply bytes out) ≡ 0 → ⊥) → toNewLeaves bytes out ≡ out
   unfolding toNewReply toNewLeaves
   new-refused-stores n = refused-keeps (toNewRefusal bytes out) (length (toNew bytes) ∷ []) (toNew bytes ++ drop (length (toNew bytes)) out) out n
 
-  pub old-refused-stores : (getD (toOldReply bytes out) 0 0 ≡ 0 → ⊥) → toOldLeaves bytes out ≡ out
+  pub old-refused-stores : (refusalIn (toOldReply bytes out) ≡ 0 → ⊥) → toOldLeaves bytes out ≡ out
   unfolding toOldReply toOldLeaves
   old-refused-stores n = refused-keeps (toOldRefusal bytes out) (length (toOld bytes) ∷ []) (toOld bytes ++ drop (length (toOld bytes)) out) out n
 
   -- what a caller takes of the output of a move
   abbrev pub storedNew : List ℕ
-  storedNew = take (getD (toNewReply bytes out) 1 0) (toNewLeaves bytes out)
+  storedNew = take (lengthIn (toNewReply bytes out)) (toNewLeaves bytes out)
 
   abbrev pub storedOld : List ℕ
-  storedOld = take (getD (toOldReply bytes out) 1 0) (toOldLeaves bytes out)
+  storedOld = take (lengthIn (toOldReply bytes out)) (toOldLeaves bytes out)
 
-  pub stored-new : getD (toNewReply bytes out) 0 0 ≡ 0 → storedNew ≡ toNew bytes
+  pub stored-new : refusalIn (toNewReply bytes out) ≡ 0 → storedNew ≡ toNew bytes
   stored-new e =
       let w = new-told e in
       stored-made (toNew bytes) (toNewReply bytes out) (toNewLeaves bytes out) out (new-accepted (w .0) (w .1))
 
-  pub stored-old : getD (toOldReply bytes out) 0 0 ≡ 0 → storedOld ≡ toOld bytes
+  pub stored-old : refusalIn (toOldReply bytes out) ≡ 0 → storedOld ≡ toOld bytes
   stored-old e =
       let w = old-told e in
       stored-made (toOld bytes) (toOldReply bytes out) (toOldLeaves bytes out) out (old-accepted (w .0) (w .1))
@@ -194,7 +194,7 @@ there bytes b m =
       moves = record { whole = r .whole; plain = ap foreign listed ∙ first-plain es [] (w .sound) refl; short = rw back (w .short) };
     }
 
-module _ (bytes out again : List ℕ) (b : Bytes bytes) (e : getD (toNewReply bytes out) 0 0 ≡ 0) where
+module _ (bytes out again : List ℕ) (b : Bytes bytes) (e : refusalIn (toNewReply bytes out) ≡ 0) where
   -- "There and back gives the old bytes of any old dump that moves"
   pub there-and-back : length bytes ≤ length again → Accepted bytes (toOldReply (storedNew bytes out) again) (toOldLeaves (storedNew bytes out) again) again
   there-and-back h =
@@ -243,7 +243,7 @@ again bytes b m t =
     let same : toNew (toOld bytes) ≡ bytes = rw (first, numbers) (new-printed bytes b (m .whole)) in
     record { there = same; moves = record { whole = k .whole; few = rw first (w .sayable .1); short = rw same (w .short) } }
 
-module _ (bytes out over : List ℕ) (b : Bytes bytes) (e : getD (toOldReply bytes out) 0 0 ≡ 0) (t : SettledDump bytes) where
+module _ (bytes out over : List ℕ) (b : Bytes bytes) (e : refusalIn (toOldReply bytes out) ≡ 0) (t : SettledDump bytes) where
   -- "back and there gives the new bytes if the dump moves back and its layouts are all used, different and in first-use order"
   pub back-and-there : length bytes ≤ length over → Accepted bytes (toNewReply (storedOld bytes out) over) (toNewLeaves (storedOld bytes out) over) over
   back-and-there h =

@@ -13,7 +13,8 @@ use Rattle.code.specs.Lists.{Below}
 use Rattle.code.specs.Shape.{shaped}
 use Rattle.code.specs.Numerals.{numeralsOf, Numbers, cut, numbers, readNumbers}
 use Rattle.code.specs.LayoutList.{unlisted, listedShape}
-use Rattle.code.specs.Dump.{Record, recordOf, Source, ownLayouts, listedLayouts, headLength, Step, taken, ended, stopped, recordBy, outOfList, broken, found, recordAt, stepIn}
+use Rattle.code.specs.Dump.{Record, Source, ownLayouts, listedLayouts, headLength, Step, taken, ended, stopped, recordBy, outOfList, broken, found, recordAt, stepIn}
+use Rattle.code.specs.Export.{recordOf}
 use Rattle.code.specs.Dump.{entered, opening, step, cellsOf, walkFrom, onward, startOf, walk}
 use Rattle.code.specs.NewDump.{Entry, entryHead, recordsOf, entriesOf, stopOf}
 use Rattle.code.proofs.Tests.{le-or-lt, clash}

@@ -1,14 +1,16 @@
--- Digits read part by part, the pattern of a number whose k is known, and what the count of the next generation decides.
+-- Digits read part by part, the pattern of a number whose k is known, what the count of the next generation decides, and what the code asks of a dealing.
 use Prim.Native.Nat.{ℕ, zero, suc, _+_, _*_, _-_, _^_, _/_, _%_, _≤_, _<_}
 use mathlib.Core.Path.{_≡_, refl}
 use mathlib.Core.List.{List, _∷_}
 use native.Mathlib.Omega.{arith}
 use native.Mathlib.Nat.{pow-suc, one-le-pow, div-lt-iff-lt-mul, mod-lt, div-add-mod'}
 use lib.ListN.{length}
+use lib.Pow.{pow-mono}
 use Rattle.code.specs.Count.{choose, fewer}
-use Rattle.code.specs.Layout.{room}
 use Rattle.code.specs.Deal.{number, laid, deal, plain, plainly}
-use Rattle.code.specs.Field.{told, pattern}
+use Rattle.code.specs.declared.Dealing.{Dealing}
+use Rattle.code.specs.declared.Dealing.the-variants.{Patterns, Digits}
+use Rattle.code.specs.Code.{deals, dealt}
 use Rattle.code.proofs.Count.{fewer-grows}
 use Rattle.code.proofs.Deal.{laid-is, deal-back}
 
@@ -30,32 +32,24 @@ deal-laid b first s n k rest pos low e h =
     let q : number b first p ≡ n = unfold number in rw (L .long, L .marks, L .ranked, L .digit) (omega (arith, div-add-mod' rest (b ^ k))) in
     rw (L .long, q) at (deal-back b first p (L .small) (rw (L .marks) low))
 
--- the last generation
-module _ (e b first next : ℕ) (z : next ≡ 0) where
-  pub told-last : (xs : List ℕ) → told e b first next xs ≡ plain e xs - 1
-  unfolding told
-  told-last xs = rw z
+-- a generation before the last
+pub deals-before : (e b first next : ℕ) → 0 < next → deals e b first next ≡ Patterns b first
+unfolding deals
+deals-before e b first zero p = absurd (omega arith)
+deals-before e b first (suc next) p = refl
 
-  pub room-last : (h : ℕ) → room e b first h next ≡ e ^ h - 1
-  unfolding room
-  room-last h = rw z
+-- a dealing that values of m wits and the digits of a byte are enough for; only the last generation, which none follows, deals digits
+abbrev pub Dealable : ℕ → Dealing → ℕ → Type 0
+Dealable m (Patterns b fewest) next = (1 < b) × (b ≤ 15) × (b ≤ 2 ^ m - 1) × (fewest ≤ 1)
+Dealable m (Digits e) next = (0 < e) × (e ≤ 15) × (e ≡ 2 ^ m - 1) × (next ≡ 0)
 
-  pub pattern-last : (h x : ℕ) → pattern e b first h next x ≡ plainly e h (x + 1)
-  unfolding pattern
-  pattern-last h x = rw z
+deals-dealable : (m b fewest next : ℕ) → 2 ≤ m → m ≤ 4 → 1 < b → b ≤ 2 ^ m - 1 → fewest ≤ 1 → Dealable m (deals (2 ^ m - 1) b fewest next) next
+unfolding deals
+deals-dealable m b fewest zero l h p q f = (omega (arith, pow-mono l), omega (arith, pow-mono h), refl, refl)
+deals-dealable m b fewest (suc next) l h p q f = (p, omega (arith, pow-mono h), q, f)
 
--- a generation before it
-pub told-before : (e b first next : ℕ) (xs : List ℕ) → 0 < next → told e b first next xs ≡ number b first xs
-unfolding told
-told-before e b first zero xs p = absurd (omega arith)
-told-before e b first (suc next) xs p = refl
-
-pub room-before : (e b first h next : ℕ) → 0 < next → room e b first h next ≤ fewer b h first (suc h)
-unfolding room
-room-before e b first h zero p = absurd (omega arith)
-room-before e b first h (suc next) p = fewer-grows b h first (suc (h - suc next)) (suc h) (omega arith)
-
-pub pattern-before : (e b first h next x : ℕ) → 0 < next → pattern e b first h next x ≡ deal b first h x
-unfolding pattern
-pattern-before e b first h zero x p = absurd (omega arith)
-pattern-before e b first h (suc next) x p = refl
+-- so is every generation's
+pub dealt-dealable : (m first n next : ℕ) → 2 ≤ m → m ≤ 4 → first ≤ 1 → Dealable m (dealt (2 ^ m - 1) first n next) next
+unfolding dealt
+dealt-dealable m first zero next l h f = deals-dealable m (2 ^ m - 1) first next l h (omega (arith, pow-mono l)) (omega arith) f
+dealt-dealable m first (suc n) next l h f = deals-dealable m (2 ^ m - 1 - 1) 1 next l h (omega (arith, pow-mono l)) (omega arith) (omega arith)

@@ -12,7 +12,8 @@ use borrow.Author.Tests.{lt-ltb, le-ltb}
 use Rattle.code.specs.declared.Kind.{Kind}
 use Rattle.code.specs.Lists.{Below}
 use Rattle.code.specs.Numerals.{sevens, numeralsOf, malformed, numeral, readSevens, cut, numbers, preceded, readNumbers}
-use Rattle.code.specs.Dump.{recordOf, Source, ownLayouts, listedLayouts, headLength, taken, ended, stopped, recordBy, outOfList, broken, found, recordAt, stepIn}
+use Rattle.code.specs.Export.{recordOf}
+use Rattle.code.specs.Dump.{Source, ownLayouts, listedLayouts, headLength, taken, ended, stopped, recordBy, outOfList, broken, found, recordAt, stepIn}
 use Rattle.code.specs.Dump.{barred, entered, openingAs, opening, stepOn, step}
 use Rattle.code.proofs.Digits.{sevens-some, sevens-few}
 use Rattle.code.proofs.Numerals.{number-reads}

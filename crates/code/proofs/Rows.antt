@@ -8,7 +8,8 @@ use native.Mathlib.Nat.{pow-suc, add-zero, zero-add}
 use lib.ListN.{length, getD, drop, replicate, length-replicate, length-drop}
 use lib.Dec.{leb}
 use Rattle.code.specs.Count.{choose, fewer, least}
-use Rattle.code.specs.Layout.{room, counts, grant}
+use Rattle.code.specs.Code.{room, deals}
+use Rattle.code.specs.Layout.{roomBy, counts, grant}
 use Rattle.code.proofs.Count.{fewer-none, fewer-step}
 
 -- from prev = C(n, k) and C(n, k + 1), .. to C(n + 1, k + 1), ..
@@ -94,8 +95,8 @@ unfoldable pub roomByRow : ℕ → ℕ → ℕ → ℕ → ℕ → ℕ
 roomByRow e b first h zero = e ^ h - 1
 roomByRow e b first h (suc h′) = weigh b (b ^ first) (drop first (row h (h - suc h′)))
 
-room-row : (e b first h h′ : ℕ) → first ≤ 1 → roomByRow e b first h h′ ≡ room e b first h h′
-unfolding room roomByRow
+room-row : (e b first h h′ : ℕ) → first ≤ 1 → roomByRow e b first h h′ ≡ roomBy e b first h h′
+unfolding room deals roomByRow
 room-row e b first h zero f = refl
 room-row e b first h (suc h′) f = fewer-row b h first (h - suc h′) f
 

@@ -2,6 +2,7 @@
 use Prim.Native.Nat.{ℕ, zero, suc, _+_, _-_, _≤_, _<_, min}
 use mathlib.Core.Path.{_≡_, refl, sym, _∙_}
 use mathlib.Core.Logic.{inl, inr}
+use mathlib.Core.Bool.{Bool, true, false}
 use mathlib.Core.List.{List, [], _∷_}
 use native.Mathlib.Omega.{arith}
 use native.Mathlib.Nat.{add-zero, pow-zero, min-eq-right}
@@ -10,15 +11,20 @@ use lib.Dec.{leb}
 use borrow.Author.Tests.{le-leb, lt-leb, lt-ltb, le-ltb}
 use Rattle.code.specs.Count.{choose, fewer}
 use Rattle.code.specs.Deal.{written, number}
-use Rattle.code.specs.Field.{zeros, base, fewest, carriers, reads, read, after, refused, wrote, writeAt, writeOn, write}
-use Rattle.code.specs.Run.{accepted, kept, run, total, opening}
+use Rattle.code.specs.Code.{Code, erased, width, generationAt}
+use Rattle.code.specs.Field.{zeros, reads, read, after, Writing, refused, wrote, writeAt, writeOn, write}
+use Rattle.code.specs.Run.{kept, run, total, opening}
 use Rattle.code.specs.Lists.{Below}
 use Rattle.code.proofs.Tests.{le-or-lt}
 use Rattle.code.proofs.Count.{fewer-grows}
-use Rattle.code.proofs.Conditions.{Layout, holds-length, holds-falls}
-use Rattle.code.proofs.Places.{told-before}
+use Rattle.code.proofs.Conditions.{Layout, holds-length}
 use Rattle.code.proofs.Deal.{blank-number}
-use Rattle.code.proofs.Field.{Ready, After, after-is, write-blank, write-read}
+use Rattle.code.proofs.Field.{Ready, After, after-is, first-tells, write-blank, write-read}
+
+-- a write that is not refused (RULES 14)
+unfoldable pub accepted : Writing → Bool
+accepted refused = false
+accepted (wrote i cells) = true
 
 -- Where the pattern that writes nothing is allowed, no other has number 0.
 fewer-one : (b s : ℕ) → fewer b s 0 1 ≡ 1
@@ -146,117 +152,106 @@ blank-written zero = refl
 blank-written (suc h) = blank-written h
 
 -- the groups that a try of x leaves
-unfoldable pub tried : ℕ → ℕ → List ℕ → List ℕ → ℕ → List ℕ → List ℕ
-tried e first hs vs x gs = kept gs (write e first hs vs x gs)
+unfoldable pub tried : Code → ℕ → List ℕ → List ℕ
+tried code x gs = kept gs (write code x gs)
 
-module _ (e first : ℕ) (hs vs : List ℕ) where
+module _ (code : Code) where
   -- groups on which c generations are used
   abbrev pub Stands : ℕ → List ℕ → Type 0
   Stands zero gs = written gs ≡ 0
-  Stands (suc n) gs = (0 < written gs) × ((y : ℕ) × (read e first hs vs gs ≡ reads (suc n) y)) × (getD hs (suc n) 0 ≤ zeros gs)
+  Stands (suc n) gs = (0 < written gs) × ((y : ℕ) × (read code gs ≡ reads (suc n) y)) × (generationAt code n .next ≤ zeros gs)
 
-  stands-ready : (c : ℕ) (gs : List ℕ) → Stands c gs → Ready hs c gs
+  stands-ready : (c : ℕ) (gs : List ℕ) → Stands c gs → Ready (code .counts) c gs
   stands-ready zero gs s = s
   stands-ready (suc n) gs s = s .2
 
-  stands-write : (x c : ℕ) (gs : List ℕ) → Stands c gs → write e first hs vs x gs ≡ writeAt e first hs vs x gs c
+  stands-write : (x c : ℕ) (gs : List ℕ) → Stands c gs → write code x gs ≡ writeAt code x gs c
   unfolding writeOn
-  stands-write x zero gs s = write-blank e first hs vs x gs s
-  stands-write x (suc n) gs s = write-read e first hs vs x gs (reads (suc n) (s .1 .0)) (s .1 .1)
+  stands-write x zero gs s = write-blank code x gs s
+  stands-write x (suc n) gs s = write-read code x gs (reads (suc n) (s .1 .0)) (s .1 .1)
 
-  stands-up : (c x : ℕ) (gs gs′ : List ℕ) → c < length hs → 0 < written gs′ → After e first hs vs c x gs gs′ → Stands (min (length hs) (suc c)) gs′
+  stands-up : (c x : ℕ) (gs gs′ : List ℕ) → c < length (code .counts) → 0 < written gs′ → After code c x gs gs′ → Stands (min (length (code .counts)) (suc c)) gs′
   stands-up c x gs gs′ l w a = rw (min-eq-right l) (w, (x, a .back w), a .ready)
 
   -- the groups hold their field, and c generations are used
   pub record Held (c : ℕ) (gs : List ℕ) : Type 0 where
-    pub long : length gs ≡ getD hs 0 0
-    pub most : c ≤ length hs
+    pub long : length gs ≡ width code
+    pub most : c ≤ length (code .counts)
     pub stands : Stands c gs
 
-  pub blank-held : Held 0 (replicate (getD hs 0 0) 0)
-  blank-held = record { long = length-replicate (getD hs 0 0) 0; most = omega arith; stands = blank-written (getD hs 0 0) }
+  pub blank-held : Held 0 (replicate (width code) 0)
+  blank-held = record { long = length-replicate (width code) 0; most = omega arith; stands = blank-written (width code) }
 
   -- a write where no generation is left
-  pub spent : (x c : ℕ) (gs : List ℕ) → Held c gs → length hs ≤ c → write e first hs vs x gs ≡ refused
+  pub spent : (x c : ℕ) (gs : List ℕ) → Held c gs → length (code .counts) ≤ c → write code x gs ≡ refused
   unfolding writeAt
-  spent x c gs k h = stands-write x c gs (k .stands) ∙ rw (le-ltb c (length hs) h)
+  spent x c gs k h = stands-write x c gs (k .stands) ∙ rw (le-ltb c (length (code .counts)) h)
 
--- generation 1 leaves the cells blank exactly where the number is one of the opening zeros
-first-tells : (e first : ℕ) (hs vs : List ℕ) (x : ℕ) (gs gs′ : List ℕ) → Layout e first hs vs → After e first hs vs 0 x gs gs′ → number e first gs′ ≡ x
-unfolding base fewest carriers
-first-tells e first hs vs x gs gs′ y a = sym (told-before e e first (getD hs 1 0) gs′ (omega (arith, holds-falls e e first hs vs 1 (y .holds) (y .two))))
-    ∙ a .tells
+module _ (code : Code) (y : Layout code) where
+  -- generation 1 leaves the cells blank exactly where the number is one of the opening zeros
+  after-stands : (first c x : ℕ) (gs gs′ : List ℕ) → code .first ≡ first → c < length (code .counts) → After code c x gs gs′ →
+      Stands code (next first (length (code .counts)) c x) gs′
+  unfolding next
+  after-stands zero zero zero gs gs′ q l a = number-blank (erased code) gs′ (rw q at (first-tells code y 0 gs gs′ a))
+  after-stands zero zero (suc x) gs gs′ q l a = elim (le-or-lt (written gs′) 0) [
+    | inl z ↦ absurd (omega (arith, first-tells code y (suc x) gs gs′ a, blank-number (erased code) (code .first) gs′ (omega arith)))
+    | inr w ↦ stands-up code 0 (suc x) gs gs′ l w a
+  ]
+  after-stands zero (suc c) x gs gs′ q l a = stands-up code (suc c) x gs gs′ l (a .marked (omega arith)) a
+  after-stands (suc first) c x gs gs′ q l a = stands-up code c x gs gs′ l (a .marked (omega arith)) a
 
-fewest-pos : (first c : ℕ) → 0 < first → 0 < fewest first c
-unfolding fewest
-fewest-pos first zero h = h
-fewest-pos first (suc c) h = omega arith
-
-after-stands : (e first : ℕ) (hs vs : List ℕ) (c x : ℕ) (gs gs′ : List ℕ) → Layout e first hs vs → c < length hs → After e first hs vs c x gs gs′ →
-    Stands e first hs vs (next first (length hs) c x) gs′
-unfolding next fewest
-after-stands e zero hs vs zero zero gs gs′ y l a = number-blank e gs′ (first-tells e 0 hs vs 0 gs gs′ y a)
-after-stands e zero hs vs zero (suc x) gs gs′ y l a = elim (le-or-lt (written gs′) 0) [
-  | inl z ↦ absurd (omega (arith, first-tells e 0 hs vs (suc x) gs gs′ y a, blank-number e 0 gs′ (omega arith)))
-  | inr w ↦ stands-up e 0 hs vs 0 (suc x) gs gs′ l w a
-]
-after-stands e zero hs vs (suc c) x gs gs′ y l a = stands-up e 0 hs vs (suc c) x gs gs′ l (a .marked) a
-after-stands e (suc first) hs vs c x gs gs′ y l a =
-    stands-up e (suc first) hs vs c x gs gs′ l (omega (arith, a .marked, fewest-pos (suc first) c (omega arith))) a
-
-module _ (e first : ℕ) (hs vs : List ℕ) (y : Layout e first hs vs) where
   -- a write where a generation is left
-  pub taken : (c x : ℕ) (gs : List ℕ) → Held e first hs vs c gs → c < length hs → x < getD vs c 0 →
-      (write e first hs vs x gs ≡ wrote (suc c) (after e first hs c x gs)) × After e first hs vs c x gs (after e first hs c x gs)
+  pub taken : (c x : ℕ) (gs : List ℕ) → Held code c gs → c < length (code .counts) → x < generationAt code c .range →
+      (write code x gs ≡ wrote (suc c) (after code c x gs)) × After code c x gs (after code c x gs)
   unfolding writeAt
   taken c x gs k cl hx =
-      let w = stands-write e first hs vs x c gs (k .stands) in
-      (w ∙ rw (lt-ltb c (length hs) cl, lt-ltb x (getD vs c 0) hx), after-is e first hs vs y c x gs cl hx (k .long) (stands-ready e first hs vs c gs (k .stands)))
+      let w = stands-write code x c gs (k .stands) in
+      (w ∙ rw (lt-ltb c (length (code .counts)) cl, lt-ltb x (generationAt code c .range) hx), after-is code y c x gs cl hx (k .long) (stands-ready code c gs (k .stands)))
 
   -- the run keeps count
-  step : (c x : ℕ) (gs : List ℕ) → Held e first hs vs c gs → (c < length hs → x < getD vs c 0) →
-      Held e first hs vs (next first (length hs) c x) (kept gs (write e first hs vs x gs))
+  step : (c x : ℕ) (gs : List ℕ) → Held code c gs → (c < length (code .counts) → x < generationAt code c .range) →
+      Held code (next (code .first) (length (code .counts)) c x) (kept gs (write code x gs))
   unfolding kept
-  step c x gs k r = elim (le-or-lt (length hs) c) [
+  step c x gs k r = elim (le-or-lt (length (code .counts)) c) [
     | inl g ↦
-        let full : min (length hs) (suc c) ≡ c = omega (arith, k .most) in
-        rw (spent e first hs vs x c gs k g, next-up first (length hs) c x (omega (arith, y .two)), full) k
+        let full : min (length (code .counts)) (suc c) ≡ c = omega (arith, k .most) in
+        rw (spent code x c gs k g, next-up (code .first) (length (code .counts)) c x (omega (arith, y .two)), full) k
     | inr l ↦
         let q = taken c x gs k l (r l) in
         rw (q .0) (record {
           long = q .1 .long
               ∙ k .long;
-          most = next-most first (length hs) c x;
-          stands = after-stands e first hs vs c x gs (after e first hs c x gs) y l (q .1);
+          most = next-most (code .first) (length (code .counts)) c x;
+          stands = after-stands (code .first) c x gs (after code c x gs) refl l (q .1);
         })
   ]
 
-  same-length : length vs ≡ length hs
-  same-length = holds-length e e first hs vs (y .holds)
+  same-length : length (code .ranges) ≡ length (code .counts)
+  same-length = holds-length (erased code) (erased code) (code .first) (code .counts) (code .ranges) (y .holds)
 
-  run-held : (c : ℕ) (gs xs : List ℕ) → Held e first hs vs c gs → InRange first vs c xs →
-      Held e first hs vs (tally first (length hs) c xs) (run (tried e first hs vs) gs xs)
+  run-held : (c : ℕ) (gs xs : List ℕ) → Held code c gs → InRange (code .first) (code .ranges) c xs →
+      Held code (tally (code .first) (length (code .counts)) c xs) (run (tried code) gs xs)
   unfolding run tried tally InRange
   run-held c gs [] k r = k
   run-held c gs (x ∷ xs) k r =
-      let r′ : (c < length hs → x < getD vs c 0) × InRange first vs (next first (length hs) c x) xs = rw same-length at r in
-      run-held (next first (length hs) c x) (kept gs (write e first hs vs x gs)) xs (step c x gs k (r′ .0)) (r′ .1)
+      let r′ : (c < length (code .counts) → x < generationAt code c .range) × InRange (code .first) (code .ranges) (next (code .first) (length (code .counts)) c x) xs = rw same-length at r in
+      run-held (next (code .first) (length (code .counts)) c x) (kept gs (write code x gs)) xs (step c x gs k (r′ .0)) (r′ .1)
 
   -- Demand 3. The write at place j of a sequence from blank cells, which is write j + 1, is accepted exactly when j + 1 less the opening zeros is at most the
   -- number of generations.
-  pub accepts : (xs : List ℕ) (j : ℕ) → InRange first vs 0 xs → j < length xs →
-      accepted (write e first hs vs (getD xs j 0) (run (tried e first hs vs) (replicate (getD hs 0 0) 0) (take j xs))) ≡ leb (suc j - opening first xs)
-      (length hs)
+  pub accepts : (xs : List ℕ) (j : ℕ) → InRange (code .first) (code .ranges) 0 xs → j < length xs →
+      accepted (write code (getD xs j 0) (run (tried code) (replicate (width code) 0) (take j xs))) ≡ leb (suc j - opening (code .first) xs)
+      (length (code .counts))
   unfolding accepted
   accepts xs j r l =
       let two = y .two in
-      let c = tally first (length hs) 0 (take j xs) in
-      let gs = run (tried e first hs vs) (replicate (getD hs 0 0) 0) (take j xs) in
-      let i : InRange first vs 0 (take j xs) × (c < length hs → getD xs j 0 < getD vs c 0) = rw same-length at (in-range-at first vs 0 xs j r l) in
-      let k = run-held 0 (replicate (getD hs 0 0) 0) (take j xs) (blank-held e first hs vs) (i .0) in
-      let n : c ≡ min (length hs) (min j (length xs) - min j (opening first xs)) =
-      rw (tally-is first (length hs) (take j xs) (omega arith), length-take, opening-take) in
-      elim (le-or-lt (suc j - opening first xs) (length hs)) [
-        | inl g ↦ rw (le-leb (suc j - opening first xs) (length hs) g, taken c (getD xs j 0) gs k (omega arith) (i .1 (omega arith)) .0)
-        | inr g ↦ rw (lt-leb (suc j - opening first xs) (length hs) g, spent e first hs vs (getD xs j 0) c gs k (omega arith))
+      let c = tally (code .first) (length (code .counts)) 0 (take j xs) in
+      let gs = run (tried code) (replicate (width code) 0) (take j xs) in
+      let i : InRange (code .first) (code .ranges) 0 (take j xs) × (c < length (code .counts) → getD xs j 0 < generationAt code c .range) = rw same-length at (in-range-at (code .first) (code .ranges) 0 xs j r l) in
+      let k = run-held 0 (replicate (width code) 0) (take j xs) (blank-held code) (i .0) in
+      let n : c ≡ min (length (code .counts)) (min j (length xs) - min j (opening (code .first) xs)) =
+      rw (tally-is (code .first) (length (code .counts)) (take j xs) (omega arith), length-take, opening-take) in
+      elim (le-or-lt (suc j - opening (code .first) xs) (length (code .counts))) [
+        | inl g ↦ rw (le-leb (suc j - opening (code .first) xs) (length (code .counts)) g, taken c (getD xs j 0) gs k (omega arith) (i .1 (omega arith)) .0)
+        | inr g ↦ rw (lt-leb (suc j - opening (code .first) xs) (length (code .counts)) g, spent code (getD xs j 0) c gs k (omega arith))
       ]

@@ -6,7 +6,7 @@ use mathlib.Core.List.{List, [], _∷_, _++_}
 use native.Mathlib.Omega.{arith}
 use lib.ListN.{length, getD, take, drop}
 use lib.Seq.{take-append-seam}
-use Rattle.code.specs.Calls.{refusal, answer, leaves}
+use Rattle.code.specs.Calls.{refusal, answer, leaves, lengthIn}
 use Rattle.code.proofs.LayoutCall.{Numbered, refusal-some}
 
 -- nothing, or the number of a refusal and what it carries
@@ -48,5 +48,5 @@ accepted refused made out none fits = record {
 }
 
 -- what a caller takes of its output is what the call made
-pub stored-made : (made reply after out : List ℕ) → Accepted made reply after out → take (getD reply 1 0) after ≡ made
+pub stored-made : (made reply after out : List ℕ) → Accepted made reply after out → take (lengthIn reply) after ≡ made
 stored-made made reply after out a = rw (a .replies, a .stores) (take-append-seam made (drop (length made) out))

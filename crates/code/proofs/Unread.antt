@@ -10,11 +10,12 @@ use lib.Dec.{ltb, eqb}
 use lib.ListN.{length, getD}
 use borrow.Author.Tests.{eq-eqb, ne-eqb, ltb-false}
 use Rattle.code.specs.declared.Shape.{Shape}
-use Rattle.code.specs.Shape.{firstOf, rangesOf, orderOf, countsOf, widthOf}
+use Rattle.code.specs.Shape.{firstOf, rangesOf, orderOf, countsOf, widthOf, codeOf}
 use Rattle.code.specs.Cells.{wit, opened, sound}
 use Rattle.code.specs.Deal.{written}
-use Rattle.code.specs.Field.{zeros, unerased, past, base, fewest, carriers, told, Reading, blank, reads, miscounted, beyond, judged, read}
-use Rattle.code.specs.Calls.{readCells, layoutRefusal, fieldRead, numberless, miscounts, exceeds, overRange, readReply, writeReply}
+use Rattle.code.specs.Code.{generationAt, told}
+use Rattle.code.specs.Field.{zeros, unerased, past, carriers, Reading, blank, reads, miscounted, beyond, judged, read}
+use Rattle.code.specs.Calls.{readCells, layoutRefusal, fieldRead, numberless, miscounts, exceeds, overRange, readReply, writeReply, refusalIn}
 use Rattle.code.proofs.Tests.{clash}
 use Rattle.code.proofs.Cells.{groups-length}
 use Rattle.code.proofs.ReadCall.{read-unsound, read-none, read-miscounted, read-beyond, read-found}
@@ -93,11 +94,11 @@ module _ (s : Shape) (bs : List ℕ) (ok : layoutRefusal s 256 ≡ []) where
 
   -- reading sound cells that have no reading is 15 or 16, and writing a number in range to them is the same refusal
   module _ (q : whole ≡ true) where
-    pub unread-is : unreadable (fieldRead s bs) ≡ true → (getD (readReply s bs) 0 0 ≡ 15) ⊎ (getD (readReply s bs) 0 0 ≡ 16)
+    pub unread-is : unreadable (fieldRead s bs) ≡ true → (refusalIn (readReply s bs) ≡ 15) ⊎ (refusalIn (readReply s bs) ≡ 16)
     unfolding unreadable
     unread-is u = go (fieldRead s bs) refl u
       where
-        go : (r : Reading) → fieldRead s bs ≡ r → unreadable r ≡ true → (getD (readReply s bs) 0 0 ≡ 15) ⊎ (getD (readReply s bs) 0 0 ≡ 16)
+        go : (r : Reading) → fieldRead s bs ≡ r → unreadable r ≡ true → (refusalIn (readReply s bs) ≡ 15) ⊎ (refusalIn (readReply s bs) ≡ 16)
         go blank f u = clash (cc)
         go (reads i x) f u = clash (cc)
         go (miscounted i n) f u = inl (rw (read-miscounted s bs ok q i n f))
@@ -123,18 +124,18 @@ module _ (s : Shape) (bs : List ℕ) (ok : layoutRefusal s 256 ≡ []) where
   place = past (countsOf s) (zeros field)
 
   -- where cells that are not blank are judged
-  judged-at : (r : Reading) → (r ≡ blank → ⊥) → fieldRead s bs ≡ r → judged full (firstOf s) (countsOf s) (rangesOf s) field place ≡ r
+  judged-at : (r : Reading) → (r ≡ blank → ⊥) → fieldRead s bs ≡ r → judged (codeOf s) field place ≡ r
   unfolding fieldRead readCells read widthOf
   judged-at r n f = go (eqb (written field) 0) refl f
     where
-      go : (a : Bool) → eqb (written field) 0 ≡ a → cond a blank (judged full (firstOf s) (countsOf s) (rangesOf s) field place) ≡ r →
-          judged full (firstOf s) (countsOf s) (rangesOf s) field place ≡ r
+      go : (a : Bool) → eqb (written field) 0 ≡ a → cond a blank (judged (codeOf s) field place) ≡ r →
+          judged (codeOf s) field place ≡ r
       go true q f = absurd (n (sym f))
       go false q f = f
 
   -- the number of the places at a generation
   abbrev pub numberAt : ℕ → ℕ
-  numberAt n = told full (base full n) (fewest (firstOf s) n) (getD (countsOf s) (suc n) 0) (carriers full n field)
+  numberAt n = told (generationAt (codeOf s) n .dealing) (carriers full n field)
 
   -- 15 carries the generation that the zero count points to, which is not the first, and the unerased count, which is not that generation's.
   pub miscounted-cells : (i u : ℕ) → fieldRead s bs ≡ miscounted i u →
@@ -146,7 +147,7 @@ module _ (s : Shape) (bs : List ℕ) (ok : layoutRefusal s 256 ≡ []) where
       not-ranged n true e = true≢false (sym (ap miscounts e))
       not-ranged n false e = true≢false (sym (ap miscounts e))
 
-      at : (n : ℕ) → judged full (firstOf s) (countsOf s) (rangesOf s) field n ≡ miscounted i u →
+      at : (n : ℕ) → judged (codeOf s) field n ≡ miscounted i u →
           (i ≡ suc n) × (1 < i) × (u ≡ length (unerased full field)) × (u ≡ getD (countsOf s) n 0 → ⊥)
       at zero j =
           let all = eq-eqb (length field) (getD (countsOf s) 0 0) (groups-length (s .m) (widthOf s) (wit (orderOf s) bs)) in

@@ -11,14 +11,15 @@ use lib.Arith.{lt-of-le-ne}
 use lib.Dec.{leb, ltb, eqb}
 use borrow.Author.Tests.{le-leb, lt-leb, lt-ltb, le-ltb, ltb-true, eq-eqb, ne-eqb}
 use Rattle.code.specs.declared.Shape.{Shape}
-use Rattle.code.specs.Shape.{firstOf, rangesOf, orderOf, outside, misfit, granted, countsOf, widthOf}
-use Rattle.code.specs.Layout.{room}
+use Rattle.code.specs.Shape.{firstOf, rangesOf, orderOf, outside, misfit, granted, countsOf, widthOf, codeOf}
 use Rattle.code.specs.Cells.{opened, sound, stored, turned}
-use Rattle.code.specs.Field.{zeros, past, base, fewest, pattern, Reading, blank, reads, miscounted, beyond, read, erase, cleared, lay, after, Writing, refused, wrote, writeAt, writeOn, write}
-use Rattle.code.specs.Run.{accepted, kept}
-use Rattle.code.specs.Calls.{readCells, storing, writeCells, refusal, answer, passes, leaves, layoutRefusal, fieldRead, fieldWrite, unsound, generation, miscounts, exceeds, countTold, spent, taker, overRange, overTaker, writeRefusal, madeAt, writeReply, writeLeaves}
+use Rattle.code.specs.Code.{generationAt, pattern, room}
+use Rattle.code.specs.Field.{zeros, past, Reading, blank, reads, miscounted, beyond, read, erase, cleared, lay, after, Writing, refused, wrote, writeAt, writeOn, write}
+use Rattle.code.specs.Run.{kept}
+use Rattle.code.proofs.Run.{accepted}
+use Rattle.code.specs.Calls.{groupsIn, readCells, storing, writeCells, refusal, answer, passes, leaves, layoutRefusal, fieldRead, fieldWrite, unsound, generation, miscounts, exceeds, countTold, spent, taker, overRange, overTaker, writeRefusal, madeAt, writeReply, writeLeaves}
 use Rattle.code.proofs.Tests.{both-true, and-true, and-false, less-not}
-use Rattle.code.proofs.Conditions.{holds-room}
+use Rattle.code.proofs.Conditions as roomy
 use Rattle.code.proofs.Cells.{turned-most}
 use Rattle.code.proofs.Groups.{blank-zeros, erase-blank}
 use Rattle.code.proofs.Field.{past-next, past-below, Ready, read-past, blank-read, write-read, write-taken}
@@ -123,7 +124,7 @@ module _ (s : Shape) (x : ℕ) (bs : List ℕ) where
 
           -- an accepted write: the generation, the wits turned, and the cells of the groups that the rules leave
           pub write-made : (n : ℕ) (gs : List ℕ) → x < getD (rangesOf s) (taker r) 0 →
-              write (2 ^ s .m - 1) (firstOf s) (countsOf s) (rangesOf s) x (opened (orderOf s) (s .m) (widthOf s) bs) ≡ wrote n gs →
+              write (codeOf s) x (opened (orderOf s) (s .m) (widthOf s) bs) ≡ wrote n gs →
               (writeReply s x bs ≡ 0 ∷ n ∷ turned (orderOf s) bs (stored (orderOf s) (s .m) gs) ∷ []) × (writeLeaves s x bs ≡ stored (orderOf s) (s .m) gs)
           unfolding refusal unsound fieldWrite writeCells storing writeReply writeLeaves answer leaves madeAt kept widthOf
           write-made n gs g w =
@@ -136,18 +137,16 @@ module _ (s : Shape) (ok : layoutRefusal s 256 ≡ []) where
   full = 2 ^ s .m - 1
 
   abbrev pub patternAt : ℕ → ℕ → List ℕ
-  patternAt n x = pattern full (base full n) (fewest (firstOf s) n) (getD (countsOf s) n 0) (getD (countsOf s) (suc n) 0) x
+  patternAt n x = let g = generationAt (codeOf s) n in pattern (g .dealing) (g .places) x
 
   -- there is room for every number of a generation's range
   pub room-for : (n x : ℕ) → n < s .t → x < getD (rangesOf s) n 0 →
-      x < room full (base full n) (fewest (firstOf s) n) (getD (countsOf s) n 0) (getD (countsOf s) (suc n) 0)
-  room-for n x l h =
-      let room = holds-room full (firstOf s) (countsOf s) (rangesOf s) n (is-layout s ok .holds) (omega (arith, counts-length s ok)) in
-      omega arith
+      let g = generationAt (codeOf s) n in x < room (g .dealing) (g .places) (g .next)
+  room-for n x l h = omega (arith, roomy.fits (codeOf s) (is-layout s ok) n (omega (arith, counts-length s ok)))
 
   -- the spare groups are those above the generation's count; blank groups have none
   pub after-erased : (n x : ℕ) (gs : List ℕ) → Ready (countsOf s) n gs → length gs ≡ widthOf s →
-      after full (firstOf s) (countsOf s) n x gs ≡ lay (erase full (zeros gs - getD (countsOf s) n 0) gs) (patternAt n x)
+      after (codeOf s) n x gs ≡ lay (erase full (zeros gs - getD (countsOf s) n 0) gs) (patternAt n x)
   unfolding after cleared widthOf
   after-erased zero x gs r l =
       let z : zeros gs - getD (countsOf s) 0 0 ≡ 0 = omega (arith, blank-zeros gs r) in
@@ -155,41 +154,41 @@ module _ (s : Shape) (ok : layoutRefusal s 256 ≡ []) where
   after-erased (suc n) x gs r l = refl
 
   -- all-zero groups are written at generation 1, others at the one after what they read as
-  pub first-write : (x : ℕ) (gs : List ℕ) → read full (firstOf s) (countsOf s) (rangesOf s) gs ≡ blank → x < getD (rangesOf s) 0 0 →
-      (write full (firstOf s) (countsOf s) (rangesOf s) x gs ≡ wrote 1 (after full (firstOf s) (countsOf s) 0 x gs)) × Ready (countsOf s) 0 gs
+  pub first-write : (x : ℕ) (gs : List ℕ) → read (codeOf s) gs ≡ blank → x < getD (rangesOf s) 0 0 →
+      (write (codeOf s) x gs ≡ wrote 1 (after (codeOf s) 0 x gs)) × Ready (countsOf s) 0 gs
   unfolding writeOn
   first-write x gs r h =
-      let w = write-taken full (firstOf s) (countsOf s) (rangesOf s) x gs 0 (omega (arith, counts-length s ok, bounded s ok .t-low)) h in
-      (write-read full (firstOf s) (countsOf s) (rangesOf s) x gs blank r ∙ w, blank-read full (firstOf s) (countsOf s) (rangesOf s) gs r)
+      let w = write-taken (codeOf s) x gs 0 (omega (arith, counts-length s ok, bounded s ok .t-low)) h in
+      (write-read (codeOf s) x gs blank r ∙ w, blank-read (codeOf s) gs r)
 
-  pub next-write : (x i y : ℕ) (gs : List ℕ) → x < getD (rangesOf s) i 0 → read full (firstOf s) (countsOf s) (rangesOf s) gs ≡ reads i y → i < s .t →
-      (write full (firstOf s) (countsOf s) (rangesOf s) x gs ≡ wrote (suc i) (after full (firstOf s) (countsOf s) i x gs)) × Ready (countsOf s) i gs
+  pub next-write : (x i y : ℕ) (gs : List ℕ) → x < getD (rangesOf s) i 0 → read (codeOf s) gs ≡ reads i y → i < s .t →
+      (write (codeOf s) x gs ≡ wrote (suc i) (after (codeOf s) i x gs)) × Ready (countsOf s) i gs
   unfolding writeOn
   next-write x i y gs h r l =
-      let q = read-past full (firstOf s) (countsOf s) (rangesOf s) gs i y r in
-      let w = write-taken full (firstOf s) (countsOf s) (rangesOf s) x gs i (omega (arith, counts-length s ok)) h in
-      (write-read full (firstOf s) (countsOf s) (rangesOf s) x gs (reads i y) r ∙ w, rw q (past-next (countsOf s) (zeros gs)))
+      let q = read-past (codeOf s) gs i y r in
+      let w = write-taken (codeOf s) x gs i (omega (arith, counts-length s ok)) h in
+      (write-read (codeOf s) x gs (reads i y) r ∙ w, rw q (past-next (countsOf s) (zeros gs)))
 
   -- the generation read is at most t
-  pub read-most : (gs : List ℕ) (i y : ℕ) → read full (firstOf s) (countsOf s) (rangesOf s) gs ≡ reads i y → i ≤ s .t
+  pub read-most : (gs : List ℕ) (i y : ℕ) → read (codeOf s) gs ≡ reads i y → i ≤ s .t
   read-most gs i y r =
       let b = below (countsOf s) (zeros gs) (omega (arith, counts-length s ok, bounded s ok .t-low)) in
-      omega (arith, read-past full (firstOf s) (countsOf s) (rangesOf s) gs i y r, counts-length s ok)
+      omega (arith, read-past (codeOf s) gs i y r, counts-length s ok)
     where
       below : (hs : List ℕ) (z : ℕ) → 0 < length hs → past hs z < length hs
       below [] z p = absurd (omega arith)
       below (h ∷ hs) z p = past-below h hs z
 
   -- A number is taken at a generation that is there exactly where it is in its range.
-  at-accepted : (x i : ℕ) (gs : List ℕ) → i < s .t → accepted (writeAt full (firstOf s) (countsOf s) (rangesOf s) x gs i) ≡ ltb x (getD (rangesOf s) i 0)
+  at-accepted : (x i : ℕ) (gs : List ℕ) → i < s .t → accepted (writeAt (codeOf s) x gs i) ≡ ltb x (getD (rangesOf s) i 0)
   unfolding writeAt accepted
   at-accepted x i gs l = rw (lt-ltb i (length (countsOf s)) (omega (arith, counts-length s ok))) (go (ltb x (getD (rangesOf s) i 0)))
     where
-      go : (b : Bool) → accepted (cond (true && b) (wrote (suc i) (after full (firstOf s) (countsOf s) i x gs)) refused) ≡ b
+      go : (b : Bool) → accepted (cond (true && b) (wrote (suc i) (after (codeOf s) i x gs)) refused) ≡ b
       go true = refl
       go false = refl
 
-  at-spent : (x i : ℕ) (gs : List ℕ) → i ≡ s .t → writeAt full (firstOf s) (countsOf s) (rangesOf s) x gs i ≡ refused
+  at-spent : (x i : ℕ) (gs : List ℕ) → i ≡ s .t → writeAt (codeOf s) x gs i ≡ refused
   unfolding writeAt
   at-spent x i gs q = rw (le-ltb i (length (countsOf s)) (omega (arith, counts-length s ok)))
 
@@ -212,8 +211,8 @@ module _ (s : Shape) (ok : layoutRefusal s 256 ≡ []) where
   none-pass false false false false k j (inr (inl h)) e = absurd (true≢false (sym h))
   none-pass false false false false k j (inr (inr h)) e = absurd (true≢false (sym h))
 
-  acceptance : (x : ℕ) (gs : List ℕ) (r : Reading) → read full (firstOf s) (countsOf s) (rangesOf s) gs ≡ r →
-      passes (refusal (lastTests s x r)) ≡ accepted (writeOn full (firstOf s) (countsOf s) (rangesOf s) x gs r)
+  acceptance : (x : ℕ) (gs : List ℕ) (r : Reading) → read (codeOf s) gs ≡ r →
+      passes (refusal (lastTests s x r)) ≡ accepted (writeOn (codeOf s) x gs r)
   unfolding miscounts exceeds spent writeOn accepted overTaker taker
   acceptance x gs blank q =
       let l : 0 < s .t = omega (arith, bounded s ok .t-low) in
@@ -236,15 +235,15 @@ module _ (s : Shape) (ok : layoutRefusal s 256 ≡ []) where
       gs = opened (orderOf s) (s .m) (widthOf s) bs
 
       r : Reading
-      r = read full (firstOf s) (countsOf s) (rangesOf s) gs
+      r = read (codeOf s) gs
 
       go : (b : Bool) → passes (refusal ((3 ∷ [], not b) ∷ lastTests s x r)) ≡
-          accepted (cond b (storing (orderOf s) (s .m) (writeOn full (firstOf s) (countsOf s) (rangesOf s) x gs r)) refused)
+          accepted (cond b (storing (orderOf s) (s .m) (writeOn (codeOf s) x gs r)) refused)
       go false = refl
-      go true = acceptance x gs r refl ∙ sym (storing-accepted (orderOf s) (s .m) (writeOn full (firstOf s) (countsOf s) (rangesOf s) x gs r))
+      go true = acceptance x gs r refl ∙ sym (storing-accepted (orderOf s) (s .m) (writeOn (codeOf s) x gs r))
 
   -- so the cells left are those of the rules
-  pub leaves-is : (x : ℕ) (bs : List ℕ) → writeLeaves s x bs ≡ triedCells (orderOf s) (s .m) (firstOf s) (countsOf s) (rangesOf s) x bs
+  pub leaves-is : (x : ℕ) (bs : List ℕ) → writeLeaves s x bs ≡ triedCells (codeOf s) x bs
   unfolding writeLeaves fieldWrite triedCells accepted kept leaves passes
   leaves-is x bs = go (writeRefusal s x bs) (fieldWrite s x bs) (refused-not x bs)
     where
@@ -255,12 +254,12 @@ module _ (s : Shape) (ok : layoutRefusal s 256 ≡ []) where
 
 -- What a write answers is small: no generation beyond the layout's, and no more wits turned than there are.
 module _ (s : Shape) (x : ℕ) where
-  at-most : (gs : List ℕ) (n : ℕ) → madeAt (storing (orderOf s) (s .m) (writeAt (2 ^ s .m - 1) (firstOf s) (countsOf s) (rangesOf s) x gs n)) ≤ length (countsOf s)
+  at-most : (gs : List ℕ) (n : ℕ) → madeAt (storing (orderOf s) (s .m) (writeAt (codeOf s) x gs n)) ≤ length (countsOf s)
   unfolding madeAt storing writeAt
   at-most gs n = go (ltb n (length (countsOf s)) && ltb x (getD (rangesOf s) n 0)) refl
     where
       go : (b : Bool) → (ltb n (length (countsOf s)) && ltb x (getD (rangesOf s) n 0)) ≡ b →
-          madeAt (storing (orderOf s) (s .m) (cond b (wrote (suc n) (after (2 ^ s .m - 1) (firstOf s) (countsOf s) n x gs)) refused)) ≤ length (countsOf s)
+          madeAt (storing (orderOf s) (s .m) (cond b (wrote (suc n) (after (codeOf s) n x gs)) refused)) ≤ length (countsOf s)
       go true q = ltb-true n (length (countsOf s)) (both-true _ _ q .0)
       go false q = omega arith
 
@@ -269,17 +268,17 @@ module _ (s : Shape) (x : ℕ) where
   made-most bs = whole (sound (orderOf s) (s .m) (getD (countsOf s) 0 0) bs)
     where
       gs : List ℕ
-      gs = opened (orderOf s) (s .m) (getD (countsOf s) 0 0) bs
+      gs = groupsIn (codeOf s) bs
 
-      on : (r : Reading) → madeAt (storing (orderOf s) (s .m) (writeOn (2 ^ s .m - 1) (firstOf s) (countsOf s) (rangesOf s) x gs r)) ≤ length (countsOf s)
+      on : (r : Reading) → madeAt (storing (orderOf s) (s .m) (writeOn (codeOf s) x gs r)) ≤ length (countsOf s)
       on blank = at-most gs 0
       on (reads i y) = at-most gs i
       on (miscounted i u) = omega arith
       on (beyond i) = omega arith
 
       whole : (b : Bool) →
-          madeAt (cond b (storing (orderOf s) (s .m) (write (2 ^ s .m - 1) (firstOf s) (countsOf s) (rangesOf s) x gs)) refused) ≤ length (countsOf s)
-      whole true = on (read (2 ^ s .m - 1) (firstOf s) (countsOf s) (rangesOf s) gs)
+          madeAt (cond b (storing (orderOf s) (s .m) (write (codeOf s) x gs)) refused) ≤ length (countsOf s)
+      whole true = on (read (codeOf s) gs)
       whole false = omega arith
 
   -- what an accepted write answers

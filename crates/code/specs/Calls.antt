@@ -1,19 +1,24 @@
 -- Document 01, "Refusal numbers, tested in this order", with document 02, §2, §6 and §7 (RULES 2, 3, 5, 6, 12, 13): the calls on lent bytes. A reply is a list
 -- of numbers: 0 and the answer's values, or the refusal's number and the values that it carries.
-use Prim.Native.Nat.{ℕ, _-_, _^_}
+use Prim.Native.Nat.{ℕ, _-_}
 use mathlib.Core.Bool.{Bool, true, false, cond, not, _&&_}
 use mathlib.Core.List.{List, [], _∷_, _++_}
 use lib.Dec.{leb, eqb}
 use lib.ListN.{getD, take, replicate}
 use Rattle.code.specs.declared.Shape.{Shape}
-use Rattle.code.specs.Shape.{firstOf, rangesOf, orderOf, outside, granted, misfit, countsOf, widthOf}
+use Rattle.code.specs.Shape.{rangesOf, orderOf, outside, granted, misfit, countsOf, widthOf, codeOf}
+use Rattle.code.specs.Code.{Code, width}
 use Rattle.code.specs.Cells.{opened, sound, stored, turned}
 use Rattle.code.specs.Field.{Reading, blank, reads, miscounted, beyond, read, Writing, refused, wrote, write}
 use Rattle.code.specs.Run.{kept}
 
--- 01, Reading; RULES 5: of a buffer by a granted list hs with its ranges vs: its groups are read
-unfoldable pub readCells : ℕ → ℕ → ℕ → List ℕ → List ℕ → List ℕ → Reading
-readCells order m first hs vs bytes = read (2 ^ m - 1) first hs vs (opened order m (getD hs 0 0) bytes)
+-- 01, Cells in bytes; RULES 3: the groups of a buffer
+abbrev pub groupsIn : Code → List ℕ → List ℕ
+groupsIn c bytes = opened (c .order) (c .m) (width c) bytes
+
+-- 01, Reading; RULES 5: of a buffer: its groups are read
+unfoldable pub readCells : Code → List ℕ → Reading
+readCells c bytes = read c (groupsIn c bytes)
 
 -- 01, Cells in bytes; RULES 3: the groups that a write leaves, as a buffer
 unfoldable pub storing : ℕ → ℕ → Writing → Writing
@@ -21,9 +26,8 @@ storing order m refused = refused
 storing order m (wrote i gs) = wrote i (stored order m gs)
 
 -- 01, Writing; RULES 6: of a buffer: its groups are written, where it is sound
-unfoldable pub writeCells : ℕ → ℕ → ℕ → List ℕ → List ℕ → ℕ → List ℕ → Writing
-writeCells order m first hs vs x bytes =
-    cond (sound order m (getD hs 0 0) bytes) (storing order m (write (2 ^ m - 1) first hs vs x (opened order m (getD hs 0 0) bytes))) refused
+unfoldable pub writeCells : Code → ℕ → List ℕ → Writing
+writeCells c x bytes = cond (sound (c .order) (c .m) (width c) bytes) (storing (c .order) (c .m) (write c x (groupsIn c bytes))) refused
 
 -- 01, Refusal numbers; RULES 12: "tested in this order": the first test that holds gives its number and what it carries; none does where the call is accepted
 unfoldable pub refusal : List (List ℕ × Bool) → List ℕ
@@ -34,6 +38,33 @@ refusal (test ∷ tests) = cond (test .1) (test .0) (refusal tests)
 unfoldable pub answer : List ℕ → List ℕ → List ℕ
 answer [] values = 0 ∷ values
 answer (k ∷ carried) values = k ∷ carried
+
+-- RULES 13: the numbers of a reply by name: its refusal, 0 where the call is accepted
+abbrev pub refusalIn : List ℕ → ℕ
+refusalIn reply = getD reply 0 0
+
+-- RULES 13: of a reading or a write: the generation, which 15 and 16 carry too
+abbrev pub generationIn : List ℕ → ℕ
+generationIn reply = getD reply 1 0
+
+-- RULES 13: of a reading: the number and the writes left
+abbrev pub numberIn : List ℕ → ℕ
+numberIn reply = getD reply 2 0
+
+abbrev pub leftIn : List ℕ → ℕ
+leftIn reply = getD reply 3 0
+
+-- RULES 13: of a write: the turned count
+abbrev pub turnedIn : List ℕ → ℕ
+turnedIn reply = getD reply 2 0
+
+-- RULES 13: of 15: the unerased count, and 0 of any other refusal
+abbrev pub unerasedIn : List ℕ → ℕ
+unerasedIn reply = getD reply 2 0
+
+-- RULES 13: of a call that stores: the length
+abbrev pub lengthIn : List ℕ → ℕ
+lengthIn reply = getD reply 1 0
 
 -- RULES 12: a call is accepted where no test holds
 unfoldable pub passes : List ℕ → Bool
@@ -51,11 +82,11 @@ filled n reply = take n (reply ++ replicate n 0)
 
 -- docs/DECISIONS.md, 90; RULES 13: the reply to a reading in five fields: refusal, generation, number, writes left, and the unerased count of a refusal
 unfoldable pub readFields : List ℕ → List ℕ
-readFields reply = cond (eqb (getD reply 0 0) 0) (filled 5 reply) (getD reply 0 0 ∷ getD reply 1 0 ∷ 0 ∷ 0 ∷ getD reply 2 0 ∷ [])
+readFields reply = cond (eqb (refusalIn reply) 0) (filled 5 reply) (refusalIn reply ∷ generationIn reply ∷ 0 ∷ 0 ∷ unerasedIn reply ∷ [])
 
 -- docs/DECISIONS.md, 90; RULES 13: the reply to a write in four: refusal, generation, turned, and the unerased count of a refusal
 unfoldable pub writeFields : List ℕ → List ℕ
-writeFields reply = cond (eqb (getD reply 0 0) 0) (filled 4 reply) (getD reply 0 0 ∷ getD reply 1 0 ∷ 0 ∷ getD reply 2 0 ∷ [])
+writeFields reply = cond (eqb (refusalIn reply) 0) (filled 4 reply) (refusalIn reply ∷ generationIn reply ∷ 0 ∷ unerasedIn reply ∷ [])
 
 -- RULES 13: the numbers of a layout's struct: its refusal and sixteen counts, for t is at most 16
 abbrev pub layoutFields : ℕ
@@ -71,11 +102,11 @@ layoutReply s g = answer (layoutRefusal s g) (granted s g)
 
 -- RULES 5: the reading of a field's cells by its layout
 unfoldable pub fieldRead : Shape → List ℕ → Reading
-fieldRead s bytes = readCells (orderOf s) (s .m) (firstOf s) (countsOf s) (rangesOf s) bytes
+fieldRead s bytes = readCells (codeOf s) bytes
 
 -- RULES 6: the write on a field's cells by its layout
 unfoldable pub fieldWrite : Shape → ℕ → List ℕ → Writing
-fieldWrite s x bytes = writeCells (orderOf s) (s .m) (firstOf s) (countsOf s) (rangesOf s) x bytes
+fieldWrite s x bytes = writeCells (codeOf s) x bytes
 
 -- 01, Refusal numbers, 3; RULES 3: "wrong byte count, or a left-over bit is 1"
 unfoldable pub unsound : Shape → List ℕ → Bool
@@ -192,7 +223,7 @@ writeReply s x bytes =
 
 -- Demand 1; RULES 14: the wits that a write turned, by its reply: "a refused write turns no cell"
 unfoldable pub turnedBy : List ℕ → ℕ
-turnedBy reply = cond (eqb (getD reply 0 0) 0) (getD reply 2 0) 0
+turnedBy reply = cond (eqb (refusalIn reply) 0) (turnedIn reply) 0
 
 -- 01, Writing; RULES 6, 12: the cells afterwards
 unfoldable pub writeLeaves : Shape → ℕ → List ℕ → List ℕ

@@ -1,58 +1,16 @@
--- Document 01, "Dumps", and document 02, §3, "Layouts said once" (RULES 8, 9, 10, 12, 13): records, the walk of both kinds of dump, export and the text of
--- `fieldlist`.
-use Prim.Native.Nat.{ℕ, zero, suc, _+_, _*_, _-_, _^_, _/_, _%_}
-use Prim.Native.Char.{code}
-use Prim.Native.String.{String, [] as nothing, _∷_ as _before_}
+-- Document 01, "Dumps", and document 02, §3, "Layouts said once" (RULES 8, 9, 12, 13): the records of both kinds of dump and the walk over them.
+use Prim.Native.Nat.{ℕ, zero, suc, _+_, _-_, _/_}
 use mathlib.Core.Bool.{Bool, true, false, cond}
 use mathlib.Core.List.{List, [], _∷_, _++_}
-use lib.Dec.{leb, ltb, eqb}
+use lib.Dec.{leb, ltb}
 use lib.ListN.{length, getD, take, drop}
 use Rattle.code.specs.declared.Kind.{Kind}
 use Rattle.code.specs.declared.Kind.the-variants.{Old, New}
 use Rattle.code.specs.declared.Shape.{Shape}
-use Rattle.code.specs.Shape.{shaped, outside, misfit, countsOf}
-use Rattle.code.specs.Calls.{refusal, answer, leaves, readFields, unsound, readReply}
-use Rattle.code.specs.Numerals.{numeralsOf, Numbers, cut, numbers, readNumbers}
+use Rattle.code.specs.Shape.{shaped}
+use Rattle.code.specs.Calls.{readFields, readReply}
+use Rattle.code.specs.Numerals.{Numbers, cut, numbers, readNumbers}
 use Rattle.code.specs.LayoutList.{Listed, unlisted, listedShape, Layouts, brokenList, layouts, layoutList}
-
--- 01, Dumps; RULES 8, 9: "as numbers, then n bytes": a record with so many numbers before n
-unfoldable pub recordOf : List ℕ → List ℕ → List ℕ
-recordOf head cells = numeralsOf (head ++ (length cells ∷ [])) ++ cells
-
--- RULES 8, 9: what an export is given beside the cells and the output: its serial, whether its layout has a number that no list has, the field's shape, and the
--- numbers before n, its head
-pub record Exporting : Type 0 where
-  pub serial : ℕ
-  pub offList : Bool
-  pub shape : Shape
-  pub head : List ℕ
-
--- 01, Dumps; RULES 8: "A record is serial, m, t, v, n"
-abbrev pub oldExport : ℕ → ℕ → ℕ → ℕ → Exporting
-oldExport serial m t v = record { serial = serial; offList = false; shape = shaped m t v; head = serial ∷ m ∷ t ∷ v ∷ [] }
-
--- 02, §3; RULES 9: "records of serial, layout number from 0, n", the number of one of "at most 64" layouts
-abbrev pub newExport : ℕ → ℕ → Shape → Exporting
-newExport serial layout s = record { serial = serial; offList = ltb 63 layout; shape = s; head = serial ∷ layout ∷ [] }
-
--- 01, Refusal numbers; RULES 12: the table's rows for export, in its order: 10, 1, 2, 3, 9
-unfoldable pub exportRefusal : Exporting → List ℕ → List ℕ → List ℕ
-exportRefusal x cells out = refusal (
-    (10 ∷ [], ltb (2 ^ 63 - 1) (x .serial)) ∷
-    (1 ∷ [], cond (x .offList) true (outside (x .shape) 256)) ∷
-    (2 ∷ [], misfit 256 (countsOf (x .shape))) ∷
-    (3 ∷ [], unsound (x .shape) cells) ∷
-    (9 ∷ [], ltb (length out) (length (recordOf (x .head) cells))) ∷ [])
-
--- 01, Refusal numbers; RULES 13: "answers its length"
-unfoldable pub exportReply : Exporting → List ℕ → List ℕ → List ℕ
-exportReply x cells out = answer (exportRefusal x cells out) (length (recordOf (x .head) cells) ∷ [])
-
--- 01, Refusal numbers; RULES 13: "An accepted export stores the record at the front of the output, leaves later bytes unchanged"
-unfoldable pub exportLeaves : Exporting → List ℕ → List ℕ → List ℕ
-exportLeaves x cells out =
-    let made = recordOf (x .head) cells in
-    leaves (exportRefusal x cells out) (made ++ drop (length made) out) out
 
 -- 01, Dumps; 02, §3; RULES 8, 9: how the records of a dump say their layouts: "serial, m, t, v", each its own, or "serial, layout number from 0" of a list
 pub data Source : Type 0 where
@@ -242,47 +200,9 @@ walkLeaves kind bytes at rows =
     let made = rowsOf kind bytes (rowSteps kind bytes at rows) in
     made ++ drop (length made) rows
 
--- 01, Dumps, of `fieldlist`; RULES 10: the bytes of a text that "`fieldlist` .. prints"
-unfoldable pub ascii : String → List ℕ
-ascii nothing = []
-ascii (c before text) = code c ∷ ascii text
+-- RULES 13: of a step's reply: where the record's cells start, and how many bytes they are
+abbrev pub startIn : List ℕ → ℕ
+startIn reply = getD reply 7 0
 
--- 01, Dumps, of `fieldlist`; RULES 10: "All numbers are decimal": in at most so many digits
-unfoldable pub spelled : ℕ → ℕ → List ℕ
-spelled zero x = []
-spelled (suc most) x = cond (ltb x 10) ((48 + x) ∷ []) (spelled most (x / 10) ++ ((48 + x % 10) ∷ []))
-
--- RULES 10: a number below 2^64 takes at most 20
-abbrev pub decimal : ℕ → List ℕ
-decimal x = spelled 20 x
-
--- 01, Dumps, of `fieldlist`; RULES 10: "one line per record: `serial generation number left`, or `serial refused N`"
-unfoldable pub recordLine : ℕ → List ℕ → List ℕ
-recordLine serial reply =
-    decimal serial ++ cond (eqb (getD reply 0 0) 0)
-    (ascii " " ++ (decimal (getD reply 1 0) ++ (ascii " " ++ (decimal (getD reply 2 0) ++ (ascii " " ++ (decimal (getD reply 3 0) ++ ascii "\n"))))))
-    (ascii " refused " ++ (decimal (getD reply 0 0) ++ ascii "\n"))
-
--- 01, Dumps, of `fieldlist`; RULES 10: "The last line is `records N`, N counting whole records"
-unfoldable pub lastLine : ℕ → List ℕ
-lastLine count = ascii "records " ++ (decimal count ++ ascii "\n")
-
--- 01, Dumps, of `fieldlist`; RULES 10: "At refusal 7 it prints `stopped 7 at OFFSET`"; "At refusal 8 the only line is `refused 8`"
-unfoldable pub stopLines : ℕ → ℕ → List ℕ → List ℕ
-stopLines count k [] = ascii "refused " ++ (decimal k ++ ascii "\n")
-stopLines count k (offset ∷ more) = ascii "stopped " ++ (decimal k ++ (ascii " at " ++ (decimal offset ++ (ascii "\n" ++ lastLine count))))
-
--- RULES 10: a line per record and the last lines, after `count` records
-unfoldable pub lines : List ℕ → ℕ → List Step → List ℕ
-lines bytes count [] = []
-lines bytes count (taken r ∷ steps) = recordLine (r .serial) (outcome bytes r) ++ lines bytes (suc count) steps
-lines bytes count (ended ∷ steps) = lastLine count
-lines bytes count (stopped k carried ∷ steps) = stopLines count k carried
-
--- RULES 10: the same from a place on, after so many records
-abbrev pub textFrom : Kind → List ℕ → ℕ → ℕ → List ℕ
-textFrom kind bytes at count = lines bytes count (onward kind bytes at)
-
--- 01, Dumps, of `fieldlist`; RULES 10: "`fieldlist` reads standard input and prints": the text of a dump
-unfoldable pub listing : Kind → List ℕ → List ℕ
-listing kind bytes = lines bytes 0 (walk kind bytes)
+abbrev pub countIn : List ℕ → ℕ
+countIn reply = getD reply 8 0

@@ -6,7 +6,7 @@ use lib.Dec.{leb, ltb, eqb}
 use lib.ListN.{length, getD, take, drop}
 use Rattle.code.specs.Lists.{listSum, same}
 use Rattle.code.specs.Calls.{refusal, answer, leaves}
-use Rattle.code.specs.Dump.{ascii}
+use Rattle.code.specs.Lists.{ascii}
 
 -- "upper-case digits": the character of a number below 16
 unfoldable pub hexDigit : ℕ → ℕ

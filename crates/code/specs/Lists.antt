@@ -1,5 +1,7 @@
--- Documents 01 and 02 (RULES 4, 9, 11, 14): what is said of lists of numbers.
+-- Documents 01 and 02 (RULES 4, 9, 10, 11, 14): what is said of lists of numbers.
 use Prim.Native.Nat.{ℕ, _+_, _≤_, _<_}
+use Prim.Native.Char.{code}
+use Prim.Native.String.{String, [] as nothing, _∷_ as _before_}
 use mathlib.Core.Bool.{Bool, true, false, _&&_}
 use mathlib.Core.List.{List, [], _∷_}
 use lib.Dec.{eqb}
@@ -32,3 +34,8 @@ same (x ∷ xs) (y ∷ ys) = eqb x y && same xs ys
 unfoldable pub listSum : List ℕ → ℕ
 listSum [] = 0
 listSum (x ∷ xs) = x + listSum xs
+
+-- 01, Dumps, of `fieldlist`; 02, §1; RULES 10, 11: the bytes of a text
+unfoldable pub ascii : String → List ℕ
+ascii nothing = []
+ascii (c before text) = code c ∷ ascii text

@@ -3,11 +3,11 @@ use Prim.Native.Nat.{ℕ, _*_}
 use mathlib.Core.Bool.{cond, not}
 use mathlib.Core.List.{List, [], _∷_, _++_, map}
 use lib.Dec.{ltb, eqb}
-use lib.ListN.{length, getD, take, drop}
+use lib.ListN.{length, take, drop}
 use Rattle.code.specs.declared.Shape.{Shape}
 use Rattle.code.specs.Shape.{outside, misfit, countsOf, widthOf}
 use Rattle.code.specs.Cells.{size}
-use Rattle.code.specs.Calls.{refusal, passes, leaves, filled, writeRefusal, writeReply, writeLeaves}
+use Rattle.code.specs.Calls.{refusal, passes, leaves, filled, writeRefusal, writeReply, writeLeaves, generationIn, refusalIn, turnedIn, unerasedIn}
 
 -- "up to 64 numbers"
 abbrev pub numbersMost : ℕ
@@ -43,20 +43,20 @@ manyRefusal s xs bytes = refusal (
 -- the replies of the fields that were written
 unfoldable pub madeReplies : List (List ℕ) → List (List ℕ)
 madeReplies [] = []
-madeReplies (reply ∷ replies) = cond (eqb (getD reply 0 0) 0) (reply ∷ madeReplies replies) []
+madeReplies (reply ∷ replies) = cond (eqb (refusalIn reply) 0) (reply ∷ madeReplies replies) []
 
 -- the reply of the field that was refused, nothing where none was
 unfoldable pub stopReply : List (List ℕ) → List ℕ
 stopReply [] = []
-stopReply (reply ∷ replies) = cond (eqb (getD reply 0 0) 0) (stopReply replies) reply
+stopReply (reply ∷ replies) = cond (eqb (refusalIn reply) 0) (stopReply replies) reply
 
 -- RULES 13: the answer: the refusal, whether a field was refused, which one, counted from 0, how many were written, and the generation and the unerased count
 -- that the refusal carries; the generations of the fields written; their turned counts. 0 stands behind these
 unfoldable pub manyNumbers : ℕ → List ℕ → List (List ℕ) → List (List ℕ)
 manyNumbers stopped refused made =
-    (getD refused 0 0 ∷ stopped ∷ (stopped * length made) ∷ length made ∷ getD refused 1 0 ∷ getD refused 2 0 ∷ []) ∷
-    filled numbersMost (map (λ reply. getD reply 1 0) made) ∷
-    filled numbersMost (map (λ reply. getD reply 2 0) made) ∷ []
+    (refusalIn refused ∷ stopped ∷ (stopped * length made) ∷ length made ∷ generationIn refused ∷ unerasedIn refused ∷ []) ∷
+    filled numbersMost (map (λ reply. generationIn reply) made) ∷
+    filled numbersMost (map (λ reply. turnedIn reply) made) ∷ []
 
 -- 02, §5; RULES 13: "saying which field it was"
 unfoldable pub manyTold : List (List ℕ) → List (List ℕ)

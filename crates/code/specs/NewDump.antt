@@ -11,7 +11,8 @@ use Rattle.code.specs.Shape.{outside, misfit, countsOf}
 use Rattle.code.specs.Calls.{refusal, answer, leaves}
 use Rattle.code.specs.Numerals.{numeralsOf}
 use Rattle.code.specs.LayoutList.{Listed, listedNumbers, unlisted, listedOf, layoutsOf, Layouts, brokenList, layouts, layoutList}
-use Rattle.code.specs.Dump.{recordOf, Source, ownLayouts, listedLayouts, Step, taken, ended, stopped, Opening, barred, entered, opening, cellsOf, walk}
+use Rattle.code.specs.Export.{recordOf}
+use Rattle.code.specs.Dump.{Source, ownLayouts, listedLayouts, Step, taken, ended, stopped, Opening, barred, entered, opening, cellsOf, walk}
 
 -- 01, Dumps; 02, §3; RULES 8, 9: what a record says: "serial, m, t, v" and its bytes; "serial, layout number from 0" and its bytes, with the layout's numbers
 pub record Entry : Type 0 where

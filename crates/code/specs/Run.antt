@@ -1,13 +1,7 @@
 -- Document 01, "Writing", and the demands (RULES 14): a sequence of writes, each tried in turn, of which a refused one stores nothing.
 use Prim.Native.Nat.{ℕ, zero, suc, _+_}
-use mathlib.Core.Bool.{Bool, true, false}
 use mathlib.Core.List.{List, [], _∷_}
 use Rattle.code.specs.Field.{Writing, refused, wrote}
-
--- Demand 3; RULES 14: "the j-th write is accepted"
-unfoldable pub accepted : Writing → Bool
-accepted refused = false
-accepted (wrote i cells) = true
 
 -- Demand 1; RULES 14: "a refused write turns no cell"
 unfoldable pub kept : List ℕ → Writing → List ℕ

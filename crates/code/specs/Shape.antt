@@ -1,19 +1,14 @@
 -- Documents 01 and 02, §2 and §7 (RULES 1, 2, 3): what a caller gives of a field, and what the general definitions take of it. There are three forms and one
 -- order of bits.
-use Prim.Native.Nat.{ℕ, _-_, _^_, _<_, _≤_}
-use mathlib.Core.Path.{_≡_}
+use Prim.Native.Nat.{ℕ, _^_}
 use mathlib.Core.Bool.{Bool, true, cond, not, _&&_}
 use mathlib.Core.List.{List, [], _∷_}
 use lib.Dec.{leb, ltb, eqb}
 use lib.ListN.{getD, replicate}
 use Rattle.code.specs.declared.Shape.{Shape}
-use Rattle.code.specs.declared.Frame.{Frame}
 use Rattle.code.specs.Cells.{listed}
 use Rattle.code.specs.Layout.{grant}
-
--- RULES 1: a shape as the code hands it on: its ranges stand in an array beside the rest
-abbrev pub framed : Frame → List ℕ → Shape
-framed f v = record { form = f .form; m = f .m; t = f .t; count = f .count; v = v }
+use Rattle.code.specs.Code.{Code}
 
 -- 01, Numbers that bound everything; RULES 1: one v for every generation: a shape with one range
 abbrev pub single : ℕ → ℕ → ℕ → ℕ → Shape
@@ -55,17 +50,6 @@ outside s g =
     not (leb (s .form) 2 && (leb 2 (s .m) && leb (s .m) 4) && (leb 2 (s .t) && leb (s .t) 16)
     && eqb (s .count) (rangesDue (s .form) (s .t)) && allRanges (given s) && leb g 256)
 
--- RULES 1: the same bounds of the form, m, t and the ranges as facts, for contracts
-pub record Bounds (s : Shape) : Type 0 where
-  pub form-high : s .form ≤ 2
-  pub m-low : 2 ≤ s .m
-  pub m-high : s .m ≤ 4
-  pub t-low : 2 ≤ s .t
-  pub t-high : s .t ≤ 16
-  pub due : s .count ≡ rangesDue (s .form) (s .t)
-  pub v-low : (i : ℕ) → i < s .count → 2 ≤ getD (s .v) i 0
-  pub v-high : (i : ℕ) → i < s .count → getD (s .v) i 0 ≤ 2 ^ 56
-
 -- 01, Layout; RULES 2: "The granted list"
 unfoldable pub granted : Shape → ℕ → List ℕ
 granted s g = grant g (s .m) (firstOf s) (rangesOf s)
@@ -81,3 +65,7 @@ countsOf s = granted s 256
 -- RULES 2: h_1 of that list, the groups of the field
 unfoldable pub widthOf : Shape → ℕ
 widthOf s = getD (countsOf s) 0 0
+
+-- RULES 1, 2, 3: the code of a field
+abbrev pub codeOf : Shape → Code
+codeOf s = record { order = orderOf s; m = s .m; first = firstOf s; counts = countsOf s; ranges = rangesOf s }

@@ -1,5 +1,7 @@
 // Documents 01 and 02 as definitions (specs/) and the theorems about them (proofs/). Of the program only what the definitions share with it stands here.
 
+pub mod refusals;
+
 // What a caller gives of a field.
 #[repr(C)]
 pub struct Shape {
@@ -16,16 +18,25 @@ pub struct Shape {
     pub v: [u64; 16],
 }
 
-// A shape but for its ranges, which stand in an array beside it, lent and not copied.
-pub struct Frame {
-    pub form: u64,
-    pub m: u64,
-    pub t: u64,
-    pub count: u64,
-}
+// What an array of labels or values has room for: the written places of a pattern whose number is in range, or the digits of the last generation.
+pub const PATTERN_MOST: usize = 64;
 
 // The two kinds of dump: the old one has m, t and v in every record, the new one lists its layouts once.
 pub enum Kind {
     Old,
     New,
+}
+
+// How the places of a generation hold a number: as a pattern whose written places, `fewest` or more, take one of so many values; or as digits.
+pub enum Dealing {
+    Patterns { values: u64, fewest: u64 },
+    Digits { base: u64 },
+}
+
+// A generation: the number of its places, that of the next generation or 0, how it deals, and its range.
+pub struct Generation {
+    pub places: u64,
+    pub next: u64,
+    pub dealing: Dealing,
+    pub range: u64,
 }

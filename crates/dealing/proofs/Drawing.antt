@@ -13,7 +13,7 @@ use lib.Seq.{set-split, drop-at, take-suc-set, drop-length, length-take-le, take
 use borrow.Author.Tests.{le-leb, lt-leb}
 use Rattle.code.specs.Count.{choose, fewer}
 use Rattle.code.specs.Deal.{laid, deal, plain, plainly}
-use Rattle.code.specs.Chosen.{labels, values, patternMost, Chosen}
+use Rattle.code.proofs.Chosen.{labels, values, patternMost, Chosen}
 use Rattle.code.specs.Lists.{Upto}
 use Rattle.code.proofs.Tests.{le-or-lt}
 use Rattle.code.proofs.Deal.{laid-is, plainly-back}

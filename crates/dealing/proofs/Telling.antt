@@ -11,7 +11,7 @@ use lib.ListN.{length, getD, take, drop, length-drop}
 use lib.Seq.{drop-cons, drop-length, length-take-le, getD-take}
 use Rattle.code.specs.Count.{choose, fewer}
 use Rattle.code.specs.Deal.{plain}
-use Rattle.code.specs.Chosen.{ranked, patternMost}
+use Rattle.code.proofs.Chosen.{ranked, patternMost}
 use Rattle.code.proofs.Tests.{le-or-lt}
 use Rattle.code.proofs.Count.{choose-up, fewer-step, fewer-grows}
 use Rattle.code.proofs.Sums.{fewer-threes}

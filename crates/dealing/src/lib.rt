@@ -1,18 +1,17 @@
 // Numbers told from patterns and dealt to them: document 01, "Dealing numbers to patterns". Of the s places of a pattern the k written ones are given,
 // leftmost first, by label and by value less 1. b is the number of values that a written place takes, fewest the least number of written places.
 // What reaches 2^56 + 1 counts as 2^56 + 1.
+use binary::wide;
+use code::PATTERN_MOST;
 ghost use mathlib.Core.Path.{_≡_};
 ghost use Prim.Native.Nat.{ℕ, suc, _+_, _*_, _/_, _%_, _^_, _<_, _≤_};
 ghost use lib.ListN.{length, getD, take, drop, set};
 ghost use Rattle.code.specs.Count.{choose, fewer};
 ghost use Rattle.code.specs.Deal.{deal, plain, plainly};
-ghost use Rattle.code.specs.Chosen.{ranked, patternMost, Chosen};
+ghost use Rattle.code.proofs.Chosen.{ranked, patternMost, Chosen};
 ghost use Rattle.counting.specs.Cap.{cap, sat};
 ghost use Rattle.dealing.specs.Pick.{unranked, Candidate};
 ghost use Rattle.dealing.specs.Split.{Dealt, Splitting};
-
-// What the arrays have room for.
-pub const PATTERN_MOST: usize = 64;
 
 // "the count of patterns with fewer written places, plus rank·b^k, plus the written values less 1 read as k digits in base b". The digits are read on from
 // the rank. Where that count is at the cap the rank is not wanted, and where it is below, no more than 36 places are written.
@@ -86,12 +85,6 @@ pub fn plain(values: &[u8; PATTERN_MOST], s: usize, e: u64) -> u64
     ensures { λ r. ⌜ r ≡ sat (plain e (take s (now (values .entry)))) ⌝ }
 {
     read_on(values, s, e, 0)
-}
-
-fn wide(x: u8) -> u64
-    ensures { λ r. ⌜ (r ≡ x) × (r < 256) ⌝ }
-{
-    x as u64
 }
 
 // What a quotient of two digits is worked out in.

@@ -5,9 +5,10 @@ use mathlib.Core.Bool.{true, false, cond}
 use mathlib.Core.List.{List, [], _∷_, _++_}
 use native.Mathlib.Omega.{arith}
 use lib.ListN.{length, getD, take, drop, replicate, List·getD-eq-default}
-use Rattle.code.specs.declared.Frame.{Frame}
+use Rattle.shapes.specs.declared.Outline.{Outline}
 use Rattle.code.specs.declared.Shape.{Shape}
-use Rattle.code.specs.Shape.{shaped, framed, outside}
+use Rattle.code.specs.Shape.{shaped, outside}
+use Rattle.shapes.specs.Outlines.{outlined}
 use Rattle.code.specs.Calls.{filled, layoutFields, layoutReply, readReply}
 use Rattle.code.specs.LayoutList.{unlisted, listedShape}
 use Rattle.code.specs.Dump.{Source, ownLayouts, listedLayouts, listedMany, taken, cellsOf, recordNumbers, outcome, stepValues}
@@ -39,15 +40,15 @@ pub not-same : {a b : Said} → false ≡ true → a ≡ b
 not-same e = clash (ap (λ same. cond same 1 0) e)
 
 -- the reply of a step that gives a record, by its layout as it is said and its reading
-pub record-told : (bytes : List ℕ) (source : Source) (head : Head) {f : Frame} {v : List ℕ} {r : Record} {reading cells : List ℕ} →
-    framed f v ≡ saidShape source (head .said) →
+pub record-told : (bytes : List ℕ) (source : Source) (head : Head) {f : Outline} {v : List ℕ} {r : Record} {reading cells : List ℕ} →
+    outlined f v ≡ saidShape source (head .said) →
     toldNumbers r ≡ head .serial ∷ head .said .layout ∷ f .form ∷ f .m ∷ f .t ∷ getD v 0 0 ∷ head .start ∷ head .count ∷ [] →
-    reading ≡ readReply (framed f v) cells → cells ≡ take (head .count) (drop (head .start) bytes) →
+    reading ≡ readReply (outlined f v) cells → cells ≡ take (head .count) (drop (head .start) bytes) →
     0 ∷ (toldNumbers r ++ reading) ≡ stepValues bytes (taken (headRecord source head))
 unfolding stepValues recordNumbers outcome cellsOf
 record-told bytes source head {f} {v} {reading = reading} {cells} e told q part =
     let said = saidShape source (head .said) in
     let numbers : Shape → List ℕ = λ s.
     head .serial ∷ head .said .layout ∷ s .form ∷ s .m ∷ s .t ∷ getD (s .v) 0 0 ∷ head .start ∷ head .count ∷ [] in
-    ap (λ l. 0 ∷ (l ++ reading)) told ∙ ap (λ l. 0 ∷ (numbers (framed f v) ++ l)) q
+    ap (λ l. 0 ∷ (l ++ reading)) told ∙ ap (λ l. 0 ∷ (numbers (outlined f v) ++ l)) q
     ∙ ap (λ (s : Shape). 0 ∷ (numbers s ++ readReply s cells)) e ∙ ap (λ l. 0 ∷ (numbers said ++ readReply said l)) part

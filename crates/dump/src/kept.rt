@@ -1,8 +1,9 @@
 // The layout that a walk keeps from record to record.
-use code::Frame;
 use code::Kind;
+use code::refusals;
 use layout::Plan;
 use records::Said;
+use shapes::Outline;
 ghost use mathlib.Core.Path.{_≡_};
 ghost use mathlib.Core.Bool.{true};
 ghost use Prim.Native.Nat.{_^_, _<_};
@@ -33,13 +34,16 @@ pub fn say_none() -> Said
 pub fn keep_none() -> Kept
     ensures { λ r. ⌜ ((source : Source) → listedMany source < 2 ^ 64 → Keeps source r (replicate 16 0) (replicate 16 0)) ⌝ }
 {
-    let frame = Frame {
+    let outline = Outline {
         form: 0,
         m: 0,
         t: 0,
         count: 1,
     };
-    let plan = Plan { frame, refusal: 1 };
+    let plan = Plan {
+        outline,
+        refusal: refusals::BOUNDS,
+    };
     Kept {
         said: say_none(),
         plan,
@@ -73,12 +77,12 @@ pub fn work_out(
     ensures { λ r. ⌜ (r .said ≡ said) × Keeps (sourceOf kind (now (dump .entry)) (now (places .entry))) r (now (v .exit)) (now (h .exit)) ⌝ }
 {
     let shape = records::shape_said(dump, kind, places, said);
-    let frame = layout::frame(shape);
+    let outline = shapes::outline_of(shape);
     let ranges = shape.v;
     *v = ranges;
     *h = [0u64; 16];
-    let refusal = layout::lay_into(h, frame, v, 256);
-    let plan = Plan { frame, refusal };
+    let refusal = layout::lay_into(h, outline, v, 256);
+    let plan = Plan { outline, refusal };
     Kept { said, plan }
 }
 

@@ -2,26 +2,27 @@
 pub mod kept;
 pub mod listed;
 
-use code::Frame;
 use code::Kind;
+use code::refusals;
 use kept::Kept;
 use layout::Plan;
 use reading::Reading;
 use records::Head;
 use records::HeadThere;
 use records::list::LayoutList;
+use shapes::Outline;
 ghost use mathlib.Core.Path.{_≡_};
 ghost use mathlib.Core.List.{[], _∷_};
 ghost use Prim.Native.Nat.{_≤_};
-ghost use lib.ListN.{length};
+ghost use lib.ListN.{length, getD};
 ghost use Rattle.code.specs.declared.Kind.the-variants.{New};
-ghost use Rattle.code.specs.Shape.{framed};
+ghost use Rattle.shapes.specs.Outlines.{outlined};
 ghost use Rattle.code.specs.Dump.{Source, openReply, step, taken, stepValues, stepReply};
 ghost use Rattle.layout.specs.Plan.{Planned};
 ghost use Rattle.records.specs.Source.{sourceOf};
 ghost use Rattle.records.specs.Head.{saidShape, headRecord};
 ghost use Rattle.dump.specs.Kept.{Keeps};
-ghost use Rattle.dump.specs.Answers.{openedReply, locatedOf, toldNumbers, stepOf, Opens, Ready};
+ghost use Rattle.dump.specs.Answers.{haltNumber, haltCarries, openedReply, locatedOf, toldNumbers, stepOf, Opens, Ready};
 
 // The most bytes of a dump.
 pub const DUMP_MOST: usize = 65536;
@@ -33,6 +34,27 @@ const LAYOUTS_MOST: usize = records::list::LAYOUTS_MOST;
 pub enum Halt {
     Malformed { offset: usize },
     Oversize,
+}
+
+// A halt in numbers: its refusal, and the offset that it carries, or 0.
+pub struct HaltFields {
+    pub refusal: u64,
+    pub offset: u64,
+}
+
+pub fn flat_halt(halt: Halt) -> HaltFields
+    ensures { λ r. ⌜ (r .refusal ≡ haltNumber halt) × (r .offset ≡ getD (haltCarries halt) 0 0) ⌝ }
+{
+    match halt {
+        Halt::Malformed { offset } => HaltFields {
+            refusal: refusals::MALFORMED,
+            offset: offset as u64,
+        },
+        Halt::Oversize => HaltFields {
+            refusal: refusals::TOO_LONG,
+            offset: 0,
+        },
+    }
 }
 
 // A dump at its front: where its records begin, behind so many layouts, or why it has none.
@@ -126,13 +148,13 @@ pub fn locate(dump: &[u8], kind: Kind, places: &[u16], at: usize) -> Located
 }
 
 // The record of a head whose layout is known.
-fn record_of(head: Head, frame: Frame, v: u64) -> Record
-    ensures { λ r. ⌜ toldNumbers r ≡ head .serial ∷ head .said .layout ∷ frame .form ∷ frame .m ∷ frame .t ∷ v ∷ head .start ∷ head .count ∷ [] ⌝ }
+fn record_of(head: Head, outline: Outline, v: u64) -> Record
+    ensures { λ r. ⌜ toldNumbers r ≡ head .serial ∷ head .said .layout ∷ outline .form ∷ outline .m ∷ outline .t ∷ v ∷ head .start ∷ head .count ∷ [] ⌝ }
 {
     let brief = Brief {
-        form: frame.form,
-        m: frame.m,
-        t: frame.t,
+        form: outline.form,
+        m: outline.m,
+        t: outline.t,
         v,
     };
     Record {
@@ -148,11 +170,11 @@ fn record_of(head: Head, frame: Frame, v: u64) -> Record
 fn step_planned(dump: &[u8], plan: Plan, v: &[u64; 16], h: &[u64; 16], head: Head) -> Step
     requires { ⌜ Planned plan (now v) (now h) ⌝ }
     ensures { λ r.
-        ⌜ ((source : Source) → framed (plan .frame) (now (v .entry)) ≡ saidShape source (head .said)
+        ⌜ ((source : Source) → outlined (plan .outline) (now (v .entry)) ≡ saidShape source (head .said)
         → stepOf r ≡ stepValues (now (dump .entry)) (taken (headRecord source head))) ⌝ }
 {
     let outcome = reading::read_by(plan, h, v, records::part(dump, head.start, head.count));
-    let record = record_of(head, plan.frame, v[0]);
+    let record = record_of(head, plan.outline, v[0]);
     Step::Record { record, outcome }
 }
 

@@ -1,16 +1,15 @@
 // Document 02, §7: a layout of a new dump's list with all its ranges.
-use crate::Halt;
 use crate::LAYOUTS_MOST;
 use crate::Opened;
 use code::Kind;
 use code::Shape;
+use code::refusals;
 ghost use mathlib.Core.Path.{_≡_};
 ghost use mathlib.Core.List.{_∷_};
 ghost use lib.ListN.{length, replicate};
 ghost use Rattle.code.specs.Calls.{filled};
 ghost use Rattle.code.specs.NewDump.{listedAs, listedReply, listedFields};
 ghost use Rattle.records.specs.Source.{layoutsAt};
-ghost use Rattle.dump.specs.Answers.{haltNumber};
 ghost use Rattle.dump.specs.Listed.{listedOf};
 
 // A listed layout. Refused, all its numbers are 0.
@@ -33,21 +32,12 @@ fn refuse(refusal: u64) -> ListedShape
     ListedShape { refusal, shape }
 }
 
-fn number_of(halt: Halt) -> u64
-    ensures { λ r. ⌜ r ≡ haltNumber halt ⌝ }
-{
-    match halt {
-        Halt::Malformed { offset: _ } => 7,
-        Halt::Oversize => 8,
-    }
-}
-
 // The layout that has a number in a list that is opened.
 fn listed_in(dump: &[u8], places: &[u16], number: u64) -> ListedShape
     ensures { λ r. ⌜ listedOf r ≡ filled listedFields (listedAs (layoutsAt (now (dump .entry)) (now (places .entry))) number) ⌝ }
 {
     if places.len() as u64 <= number {
-        return refuse(1);
+        return refuse(refusals::BOUNDS);
     }
     let shape = records::listed_shape(dump, places, number);
     ListedShape { refusal: 0, shape }
@@ -60,6 +50,9 @@ pub fn listed_shape(dump: &[u8], number: u64) -> ListedShape
     let mut places = [0u16; LAYOUTS_MOST];
     match crate::open(dump, Kind::New, &mut places) {
         Opened::Records { start: _, layouts } => listed_in(dump, &places[0..layouts], number),
-        Opened::Barred(halt) => refuse(number_of(halt)),
+        Opened::Barred(halt) => {
+            let told = crate::flat_halt(halt);
+            refuse(told.refusal)
+        }
     }
 }

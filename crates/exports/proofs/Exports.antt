@@ -10,11 +10,12 @@ use borrow.Author.Tests.{lt-ltb, le-ltb}
 use Rattle.code.specs.declared.Shape.{Shape}
 use Rattle.code.specs.Lists.{Below}
 use Rattle.code.specs.Cells.{sound}
-use Rattle.code.specs.Shape.{Bounds, rangesDue, given, orderOf, outside, misfit, granted, countsOf, widthOf}
+use Rattle.code.specs.Shape.{rangesDue, given, orderOf, outside, misfit, granted, countsOf, widthOf}
+use Rattle.code.proofs.LayoutCall.{Bounds}
 use Rattle.code.specs.Calls.{refusal, answer, leaves, layoutRefusal}
 use Rattle.code.specs.Numerals.{numeralsOf}
 use Rattle.code.specs.LayoutList.{listedNumbers, listedOf, layoutsOf}
-use Rattle.code.specs.Dump.{recordOf}
+use Rattle.code.specs.Export.{recordOf}
 use Rattle.code.specs.NewDump.{layoutExportRefusal, layoutExportReply, layoutExportLeaves}
 use Rattle.code.proofs.LayoutCall.{given-taken, refused-early, passed-early}
 use Rattle.code.proofs.Records.{numerals-append}

@@ -5,9 +5,9 @@ use mathlib.Core.List.{List, [], _∷_, _++_}
 use native.Mathlib.Omega.{arith}
 use lib.ListN.{length, getD, take, drop}
 use Rattle.code.specs.declared.Kind.{Kind}
-use Rattle.code.specs.Calls.{answer, readReply}
+use Rattle.code.specs.Calls.{answer, readReply, refusalIn}
 use Rattle.code.specs.Numerals.{numeralsOf}
-use Rattle.code.specs.Dump.{recordOf, Exporting, exportRefusal, exportReply, exportLeaves}
+use Rattle.code.specs.Export.{recordOf, Exporting, exportRefusal, exportReply, exportLeaves}
 use Rattle.code.specs.Dump.{Source, entered, opening, cellsOf, recordNumbers, outcome, stepValues, stepReply}
 use Rattle.code.specs.NewDump.{Entry, entryHead}
 use Rattle.code.proofs.Stores.{refused-keeps}
@@ -27,7 +27,7 @@ refused-leaves x cells out after k refused left =
 -- The export of a record that its dump can say, which stored n bytes.
 module _ (source : Source) (e : Entry) (said : Listing source e) (out after : List ℕ) (n : ℕ)
     (stored : madeOf (Stored n) ≡ exportReply (exportOf source e) (e .cells) out) (left : after ≡ exportLeaves (exportOf source e) (e .cells) out) where
-  accepted : getD (exportReply (exportOf source e) (e .cells) out) 0 0 ≡ 0
+  accepted : refusalIn (exportReply (exportOf source e) (e .cells) out) ≡ 0
   accepted = ap (λ r. getD r 0 0) (sym stored)
 
   -- they are the record

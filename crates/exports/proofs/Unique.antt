@@ -3,7 +3,7 @@ use Prim.Native.Nat.{ℕ}
 use mathlib.Core.Path.{_≡_}
 use mathlib.Core.List.{List}
 use Rattle.code.specs.declared.Shape.{Shape}
-use Rattle.code.specs.Dump.{oldExport, newExport, exportReply, exportLeaves}
+use Rattle.code.specs.Export.{oldExport, newExport, exportReply, exportLeaves}
 use Rattle.code.specs.NewDump.{layoutExportReply, layoutExportLeaves}
 use Rattle.storing.specs.Answers.{madeOf}
 use Rattle.storing.specs.declared.Made.{Made}

@@ -4,7 +4,7 @@ use mathlib.Core.Path.{_≡_}
 use mathlib.Core.Bool.{false}
 use mathlib.Core.List.{List}
 use Rattle.code.specs.declared.Shape.{Shape}
-use Rattle.code.specs.Dump.{Exporting, exportReply, exportLeaves}
+use Rattle.code.specs.Export.{Exporting, exportReply, exportLeaves}
 
 -- the reply and the output afterwards, whichever export it is that its serial and its layout's number do not refuse
 abbrev pub Exported : Shape → List ℕ → List ℕ → List ℕ → List ℕ → List ℕ → Type 0

@@ -7,7 +7,8 @@ use native.Mathlib.Omega.{arith}
 use lib.ListN.{length, take, drop, length-append, length-take, length-drop}
 use lib.Seq.{take-at}
 use Rattle.code.specs.declared.Kind.{Kind}
-use Rattle.code.specs.Dump.{barred, opening, startOf, listing}
+use Rattle.code.specs.Dump.{barred, opening, startOf}
+use Rattle.code.specs.Listing.{listing}
 use Rattle.code.proofs.Records.{behind}
 use Rattle.dump.specs.Answers.{haltNumber, haltCarries}
 use Rattle.dump.specs.declared.Halt.{Halt}

@@ -2,7 +2,7 @@
 use code::Kind;
 ghost use mathlib.Core.Path.{_≡_};
 ghost use Rattle.code.specs.Lists.{same};
-ghost use Rattle.code.specs.Dump.{ascii};
+ghost use Rattle.code.specs.Lists.{ascii};
 
 pub enum Asked {
     // The listing of a dump of this kind.

@@ -10,7 +10,8 @@ ghost use mathlib.Core.Path.{_≡_};
 ghost use mathlib.Core.Bool.{true};
 ghost use Prim.Native.Nat.{_≤_};
 ghost use lib.ListN.{length};
-ghost use Rattle.code.specs.Dump.{barred, opening, startOf, listing};
+ghost use Rattle.code.specs.Dump.{barred, opening, startOf};
+ghost use Rattle.code.specs.Listing.{listing};
 ghost use Rattle.dump.specs.Answers.{dumpMost, haltNumber, haltCarries, Ready};
 ghost use Rattle.fieldlist.specs.Handing.{Part};
 

@@ -4,7 +4,7 @@ use mathlib.Core.Path.{_≡_, refl}
 use mathlib.Core.List.{List, [], _∷_}
 use lib.ListN.{replicate}
 use Rattle.code.specs.Calls.{refusal, answer, leaves}
-use Rattle.code.specs.Dump.{ascii}
+use Rattle.code.specs.Lists.{ascii}
 use Rattle.code.specs.Hex.{hexDigit, hexDigits, sumByte, hexLine, dataLine, dataLines, endRecord, hexText}
 use Rattle.code.specs.Hex.{hexExportRefusal, hexExportReply, hexExportLeaves, digitNumber, spelledByte, spelledBytes, lineBytes}
 use Rattle.code.specs.Hex.{dataCount, dataAddress, lineType, lineData, lineEnd, behindBytes, nextLine, allSpelled, misshapen, ladenEnd, wrongSum}

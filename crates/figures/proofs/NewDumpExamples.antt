@@ -10,7 +10,8 @@ use Rattle.code.specs.Cells.{listed}
 use Rattle.code.specs.Calls.{refusal, answer, leaves, filled}
 use Rattle.code.specs.Numerals.{sevens, numeralsOf, longer, readSevens, preceded, readNumbers}
 use Rattle.code.specs.LayoutList.{listedNumbers, listedBy, listedShape, listedOf, layoutsOf, ledLayouts, uncounted, followed, readLayout, readLayouts, countedLayouts, layoutList}
-use Rattle.code.specs.Dump.{recordOf, Record, recordBy, outOfList, broken, found, stepIn, taken, ended, stopped, behindList, openingAs, opening, stepOn, step, cellsOf, walkFrom, startOf, walk}
+use Rattle.code.specs.Export.{recordOf}
+use Rattle.code.specs.Dump.{Record, recordBy, outOfList, broken, found, stepIn, taken, ended, stopped, behindList, openingAs, opening, stepOn, step, cellsOf, walkFrom, startOf, walk}
 use Rattle.code.specs.NewDump.{entryHead, recordsOf, newDumpOf, entriesOf, stopOf, listedIn, placeOf, joined, firstUse, numbered, foreign, firstRefusal, moveRefusal}
 use Rattle.code.specs.NewDump.{toNew, toNewRefusal, toNewReply, toNewLeaves, toOld, toOldRefusal, toOldReply, toOldLeaves}
 

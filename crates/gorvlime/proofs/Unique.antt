@@ -9,7 +9,8 @@ use lib.ListN.{getD, take, drop}
 use Rattle.code.specs.declared.Shape.{Shape}
 use Rattle.code.specs.Calls.{filled, readFields, writeFields, readReply, writeReply, writeLeaves}
 use Rattle.code.specs.declared.Kind.the-variants.{Old, New}
-use Rattle.code.specs.Dump.{oldExport, newExport, exportReply, exportLeaves, openReply, stepReply}
+use Rattle.code.specs.Export.{oldExport, newExport, exportReply, exportLeaves}
+use Rattle.code.specs.Dump.{openReply, stepReply}
 use Rattle.code.specs.NewDump.{layoutExportReply, layoutExportLeaves, toNewReply, toNewLeaves, toOldReply, toOldLeaves}
 use Rattle.code.specs.Hex.{hexExportReply, hexExportLeaves, hexImportReply, hexImportLeaves}
 use Rattle.gorvlime.specs.Fields.{madeFields, openFields, movedFields, offsetFields, stepFields, newStepFields, newFoundFields, foundFields}

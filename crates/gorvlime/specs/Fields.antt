@@ -4,7 +4,8 @@ use mathlib.Core.Bool.{cond}
 use mathlib.Core.List.{List, [], _∷_, _++_}
 use lib.Dec.{ltb, eqb}
 use lib.ListN.{length, getD, take, drop}
-use Rattle.code.specs.Calls.{filled, readFields}
+use Rattle.code.specs.Calls.{filled, readFields, refusalIn}
+use Rattle.code.specs.Dump.{countIn, startIn}
 use Rattle.gorvlime.specs.declared.c.MadeAnswer.{MadeAnswer}
 use Rattle.gorvlime.specs.declared.c.OpenAnswer.{OpenAnswer}
 use Rattle.gorvlime.specs.declared.c.MovedAnswer.{MovedAnswer}
@@ -22,7 +23,7 @@ movedFields r = r .refusal ∷ r .offset ∷ r .length ∷ []
 
 -- a reply in n fields, the second of which is the offset that a refusal carries
 unfoldable pub offsetFields : ℕ → List ℕ → List ℕ
-offsetFields n reply = filled n (cond (eqb (getD reply 0 0) 0) (0 ∷ 0 ∷ drop 1 reply) reply)
+offsetFields n reply = filled n (cond (eqb (refusalIn reply) 0) (0 ∷ 0 ∷ drop 1 reply) reply)
 
 abbrev pub newStepFields : NewStepAnswer → List ℕ
 newStepFields r =
@@ -36,7 +37,7 @@ stepFields r =
 
 -- where the cells of a step's record end, by its reply
 unfoldable pub cellsEnd : List ℕ → ℕ
-cellsEnd reply = getD reply 7 0 + getD reply 8 0
+cellsEnd reply = startIn reply + countIn reply
 
 -- the seventeen fields of the reply to a step of a new dump: a record's are 0, 0, 1, its serial, its layout's number, form, m, t, its first v, where its cells
 -- start and how many they are, where they end, and its reading in five

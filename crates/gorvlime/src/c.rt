@@ -1,5 +1,6 @@
 // The public calls for C: the answers of this crate's other calls in structs of numbers, 0 in the fields that an answer lacks.
 use code::Shape;
+use code::refusals;
 use dump::Brief;
 use dump::Halt;
 ghost use mathlib.Core.Path.{_≡_};
@@ -12,7 +13,8 @@ ghost use Rattle.many.specs.Answers.{manyOf};
 ghost use Prim.Native.Nat.{_^_, _<_};
 ghost use lib.ListN.{take, drop, replicate};
 ghost use Rattle.code.specs.declared.Kind.the-variants.{Old, New};
-ghost use Rattle.code.specs.Dump.{oldExport, newExport, exportReply, exportLeaves, openReply, stepReply, walkReply, walkLeaves};
+ghost use Rattle.code.specs.Export.{oldExport, newExport, exportReply, exportLeaves};
+ghost use Rattle.code.specs.Dump.{openReply, stepReply, walkReply, walkLeaves};
 ghost use Rattle.code.specs.NewDump.{layoutExportReply, layoutExportLeaves, listedReply, listedFields, toNewReply, toNewLeaves, toOldReply, toOldLeaves};
 ghost use Rattle.code.specs.Hex.{hexExportReply, hexExportLeaves, hexImportReply, hexImportLeaves};
 ghost use Rattle.dump.specs.Answers.{haltOf, openedReply, stepOf};
@@ -154,13 +156,11 @@ fn no_record(refusal: u64, offset: u64) -> NewStepAnswer
     }
 }
 
-fn flat_halt(halt: Halt) -> NewStepAnswer
+fn no_step(halt: Halt) -> NewStepAnswer
     ensures { λ r. ⌜ newStepFields r ≡ newFoundFields (haltOf halt) ⌝ }
 {
-    match halt {
-        Halt::Malformed { offset } => no_record(7, offset as u64),
-        Halt::Oversize => no_record(8, 0),
-    }
+    let told = dump::flat_halt(halt);
+    no_record(told.refusal, told.offset)
 }
 
 fn flat_step(a: dump::Step) -> NewStepAnswer
@@ -189,7 +189,7 @@ fn flat_step(a: dump::Step) -> NewStepAnswer
             }
         }
         dump::Step::End => no_record(0, 0),
-        dump::Step::Stop(halt) => flat_halt(halt),
+        dump::Step::Stop(halt) => no_step(halt),
     }
 }
 
@@ -250,10 +250,10 @@ fn flat_opened(a: dump::Opened) -> OpenAnswer
             first: start as u64,
         },
         dump::Opened::Barred(halt) => {
-            let h = flat_halt(halt);
+            let told = dump::flat_halt(halt);
             OpenAnswer {
-                refusal: h.refusal,
-                offset: h.offset,
+                refusal: told.refusal,
+                offset: told.offset,
                 layouts: 0,
                 first: 0,
             }
@@ -308,7 +308,7 @@ fn flat_moved(a: moves::Moved) -> MovedAnswer
             length: n as u64,
         },
         moves::Moved::Malformed { offset } => MovedAnswer {
-            refusal: 7,
+            refusal: refusals::MALFORMED,
             offset: offset as u64,
             length: 0,
         },

@@ -2,7 +2,7 @@
 use Prim.Native.Nat.{ℕ, zero, suc}
 use mathlib.Core.List.{List, [], _∷_, _++_}
 use Rattle.code.specs.Count.{choose}
-use Rattle.code.specs.Dump.{decimal}
+use Rattle.code.specs.Listing.{decimal}
 
 -- the first numbers of row n, so many, each behind a space
 unfoldable pub entriesText : ℕ → ℕ → List ℕ

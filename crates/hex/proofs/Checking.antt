@@ -8,7 +8,7 @@ use lib.ListN.{length, take, drop, length-append, length-take, length-drop}
 use lib.Seq.{take-all, drop-drop}
 use borrow.Author.Tests.{eq-eqb, ne-eqb}
 use Rattle.code.specs.Hex.{dataCount, lineData, nextLine, lineRefusal, isEnd, gives, closed, hexImport, bytesOf}
-use Rattle.code.specs.HexLine.{lineSize, Shaped}
+use Rattle.code.proofs.HexLines.{lineSize, Shaped}
 use Rattle.code.proofs.HexLines.{line-passed, data-length, next-is, size-within}
 use Rattle.code.proofs.HexImport.{importOn, import-refused, import-ended, import-taken, Addressed, held-more, import-front, import-going}
 use Rattle.code.proofs.HexCalls.{HexImports, import-short, import-stored}

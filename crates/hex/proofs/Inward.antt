@@ -12,7 +12,7 @@ use lib.Dec.{leb, ltb, eqb}
 use borrow.Author.Tests.{lt-ltb, le-ltb, le-leb, lt-leb}
 use Rattle.code.specs.Hex.{lineBytes, dataCount, dataAddress, lineType, allSpelled, ladenEnd, wrongSum, displaced}
 use Rattle.code.specs.Lists.{listSum}
-use Rattle.code.specs.HexLine.{lineSize}
+use Rattle.code.proofs.HexLines.{lineSize}
 use Rattle.code.proofs.Tests.{le-or-lt, both-true}
 use Rattle.code.proofs.HexLines.{is-false, spelled-small, next-is, size-within}
 use Rattle.hex.specs.declared.import.Line.{Line}

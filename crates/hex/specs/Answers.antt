@@ -6,7 +6,7 @@ use mathlib.Core.List.{List, [], _∷_}
 use lib.ListN.{length, drop}
 use Rattle.code.specs.Hex.{lineBytes, dataCount, nextLine, allSpelled, lineRefusal, isEnd, faulty, gives, hexImport}
 use Rattle.code.specs.Lists.{listSum}
-use Rattle.code.specs.HexLine.{Shaped, lineSize}
+use Rattle.code.proofs.HexLines.{Shaped, lineSize}
 use Rattle.hex.specs.declared.import.Spelling.{Spelling}
 use Rattle.hex.specs.declared.import.Spelling.the-variants.{Unspelled, Whole}
 use Rattle.hex.specs.declared.import.Line.{Line}

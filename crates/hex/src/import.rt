@@ -6,7 +6,7 @@ ghost use lib.Dec.{leb, ltb, eqb};
 ghost use lib.ListN.{length, drop};
 ghost use Rattle.code.specs.Hex.{digitNumber, spelledBytes, lineBytes, dataCount, lineData, lineEnd, allSpelled, isEnd};
 ghost use Rattle.code.specs.Hex.{hexImport, bytesOf};
-ghost use Rattle.code.specs.HexLine.{byteAt, lineSize};
+ghost use Rattle.code.proofs.HexLines.{byteAt, lineSize};
 ghost use Rattle.storing.specs.Put.{Put};
 ghost use Rattle.hex.specs.Answers.{Sums, TellsShape, Measured, Judges, Counts};
 ghost use Rattle.hex.specs.declared.import.Checked.the-variants.{Right};

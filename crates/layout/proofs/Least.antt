@@ -7,7 +7,8 @@ use native.Mathlib.Omega.{arith}
 use lib.Dec.{leb}
 use borrow.Author.Tests.{le-leb, leb-true}
 use Rattle.code.specs.Count.{least}
-use Rattle.code.specs.Layout.{room}
+use Rattle.code.specs.Code.{room, deals}
+use Rattle.code.specs.Layout.{roomBy}
 use Rattle.code.proofs.Tests.{le-or-lt, least-le, least-passes}
 use Rattle.code.proofs.Count.{fewer-grows, fewer-more}
 use Rattle.climbing.specs.Climb.{held, Least}
@@ -19,8 +20,8 @@ held-up b first low x y h =
     (fewer-more b b x y first first (suc (x - low)) (le-refl b) h (le-refl first))
     (fewer-grows b y first (suc (x - low)) (suc (y - low)) (omega arith))
 
-pub room-up : (e b first low x y : ℕ) → 0 < e → x ≤ y → room e b first x low ≤ room e b first y low
-unfolding room
+pub room-up : (e b first low x y : ℕ) → 0 < e → x ≤ y → roomBy e b first x low ≤ roomBy e b first y low
+unfolding room deals
 room-up e b first zero x y p h = omega (arith, pow-le-pow-right {n = e} p h)
 room-up e b first (suc low) x y p h = held-up b first (suc low) x y h
 
@@ -43,11 +44,11 @@ module _ (f : ℕ → ℕ) (grows : (x y : ℕ) → x ≤ y → f x ≤ f y) (v 
       le-antisymm le (not-before (omega arith))
 
 -- a count as the code asks for it: the last, and one above a count
-pub least-last : {v r : ℕ} (e b first : ℕ) → Least (λ x. e ^ x - 1) v 0 r → Least (λ x. room e b first x 0) v 0 r
-unfolding room
+pub least-last : {v r : ℕ} (e b first : ℕ) → Least (λ x. e ^ x - 1) v 0 r → Least (λ x. roomBy e b first x 0) v 0 r
+unfolding room deals
 least-last e b first L = L
 
-pub least-room : {low v r : ℕ} (e b first : ℕ) → 0 < low → Least (held b first low) v low r → Least (λ x. room e b first x low) v low r
-unfolding room
+pub least-room : {low v r : ℕ} (e b first : ℕ) → 0 < low → Least (held b first low) v low r → Least (λ x. roomBy e b first x low) v low r
+unfolding room deals
 least-room {low = zero} e b first p L = absurd (omega arith)
 least-room {low = suc low} e b first p L = L

@@ -6,13 +6,14 @@ use native.Mathlib.Omega.{arith}
 use mathlib.Core.Bool.{true}
 use lib.ListN.{replicate}
 use Rattle.code.specs.declared.Shape.{Shape}
-use Rattle.code.specs.declared.Frame.{Frame}
-use Rattle.code.specs.Shape.{framed, firstOf, rangesOf, countsOf, widthOf}
+use Rattle.shapes.specs.declared.Outline.{Outline}
+use Rattle.code.specs.Shape.{firstOf, rangesOf, countsOf, widthOf}
+use Rattle.shapes.specs.Outlines.{outlined}
 use Rattle.code.specs.Calls.{filled, layoutFields, layoutRefusal, layoutReply}
 use Rattle.code.proofs.Conditions.{holds-falls, head-most}
 use Rattle.code.proofs.LayoutCall.{bounded, fits, is-layout, counts-length, reply-number, reply-none, reply-outside, reply-counts, reply-count}
-use Rattle.bounds.specs.Frames.{frameOutside}
-use Rattle.bounds.proofs.Ranges.{outside-by-frame}
+use Rattle.shapes.specs.Outlines.{outlineOutside}
+use Rattle.shapes.proofs.Ranges.{outside-by-outline}
 use Rattle.layout.specs.Plan.{Granted}
 
 module _ (s : Shape) {k : ℕ} {h : List ℕ} (right : k ∷ h ≡ filled layoutFields (layoutReply s 256)) where
@@ -36,6 +37,6 @@ module _ (s : Shape) {k : ℕ} {h : List ℕ} (right : k ∷ h ≡ filled layout
         some = omega (arith, each 0, holds-falls e e (firstOf s) (countsOf s) (rangesOf s) 0 (y .holds) (omega (arith, y .two)));
       }
 
--- a frame out of bounds refuses the layout
-pub frame-refused : (f : Frame) (v : List ℕ) → frameOutside f ≡ true → 1 ∷ replicate 16 0 ≡ filled layoutFields (layoutReply (framed f v) 256)
-frame-refused f v w = reply-outside (framed f v) 256 (outside-by-frame f w v 256)
+-- an outline out of bounds refuses the layout
+pub outline-refused : (f : Outline) (v : List ℕ) → outlineOutside f ≡ true → 1 ∷ replicate 16 0 ≡ filled layoutFields (layoutReply (outlined f v) 256)
+outline-refused f v w = reply-outside (outlined f v) 256 (outside-by-outline f w v 256)

@@ -5,7 +5,7 @@ use mathlib.Core.Bool.{false}
 use mathlib.Core.List.{List, _∷_}
 use native.Mathlib.Omega.{arith}
 use lib.ListN.{getD, set, replicate}
-use Rattle.code.specs.Layout.{room, counts, grant}
+use Rattle.code.specs.Layout.{roomBy, counts, grant}
 use Rattle.code.specs.declared.Shape.{Shape}
 use Rattle.code.specs.Shape.{firstOf, rangesOf, outside, granted}
 use Rattle.code.specs.Calls.{filled, layoutFields, layoutReply}

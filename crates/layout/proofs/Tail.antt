@@ -7,7 +7,7 @@ use native.Mathlib.Omega.{arith}
 use lib.ListN.{length, getD, drop, set, replicate, replicate-append-replicate}
 use lib.Seq.{drop-cons, drop-length}
 use lib.Dec.{leb}
-use Rattle.code.specs.Layout.{room, counts}
+use Rattle.code.specs.Layout.{roomBy, counts}
 use Rattle.code.proofs.Tests.{le-or-lt, least-low}
 use Rattle.climbing.specs.Climb.{held, Least, Cut, Asked}
 use Rattle.climbing.proofs.Pascal.{least-from}
@@ -20,7 +20,7 @@ module _ (g e : ℕ) where
   unfolding counts
   head-rises b first v vs =
       let c = getD (counts g e (e - 1) 1 vs) 0 0 in
-      omega (arith, least-low (λ (x : ℕ). leb v (room e b first x c)) (suc c) g)
+      omega (arith, least-low (λ (x : ℕ). leb v (roomBy e b first x c)) (suc c) g)
 
   later-rises : (vs : List ℕ) (i : ℕ) → getD (counts g e (e - 1) 1 (drop i vs)) 0 0 ≤ getD (counts g e (e - 1) 1 vs) 0 0
   later-rises vs zero = omega arith
@@ -47,13 +47,13 @@ set-zero i (suc j) x ys q = rw q (ap (_∷_ 0) (set-zero (suc j) j x ys refl))
 -- the next count, r, which goes to place j; b values from `first` places on
 module _
     {g e t i low v r : ℕ} {vs h : List ℕ} (b first : ℕ) (T : Tail g e t vs i low h) (j : ℕ) (next : i ≡ suc j) (here : getD vs j 0 ≡ v)
-    (L : Least (λ x. room e b first x low) v low r) where
+    (L : Least (λ x. roomBy e b first x low) v low r) where
   ranges : drop j vs ≡ v ∷ drop i vs
   ranges = drop-cons vs j 0 (omega (arith, T .many, T .within)) ∙ rw (next, here)
 
   one-more : r ≤ g → counts g e b first (drop j vs) ≡ r ∷ counts g e (e - 1) 1 (drop i vs)
   unfolding counts
-  one-more f = rw (ranges, ← T .head, least-is (λ x. room e b first x low) (λ x y. room-up e b first low x y (T .wide)) v g low r L f)
+  one-more f = rw (ranges, ← T .head, least-is (λ x. roomBy e b first x low) (λ x y. room-up e b first low x y (T .wide)) v g low r L f)
 
   pub filled-more : r ≤ g → set h j r ≡ replicate j 0 ++ (counts g e b first (drop j vs) ++ replicate (16 - t) 0)
   filled-more f = rw (T .is, one-more f) (set-zero i j r (counts g e (e - 1) 1 (drop i vs) ++ replicate (16 - t) 0) next)
@@ -63,13 +63,13 @@ module _
 
   pub over : g < r → g < getD (counts g e b first (drop j vs)) 0 0
   unfolding counts
-  over f = rw (ranges, ← T .head) (least-over (λ x. room e b first x low) (λ x y. room-up e b first low x y (T .wide)) v g low r L f)
+  over f = rw (ranges, ← T .head) (least-over (λ x. roomBy e b first x low) (λ x y. room-up e b first low x y (T .wide)) v g low r L f)
 
   at-least : g ≤ r → g ≤ getD (counts g e b first (drop j vs)) 0 0
   at-least f = elim (le-or-lt r g) [ inl l ↦ omega (arith, head-more l) | inr k ↦ omega (arith, over k) ]
 
 tail-more : {g e t i low v r : ℕ} {vs h : List ℕ} → Tail g e t vs i low h → (j : ℕ) → i ≡ suc j → getD vs j 0 ≡ v →
-    Least (λ x. room e (e - 1) 1 x low) v low r → r ≤ g → Tail g e t vs j r (set h j r)
+    Least (λ x. roomBy e (e - 1) 1 x low) v low r → r ≤ g → Tail g e t vs j r (set h j r)
 tail-more {e} T j next here L f = record {
   wide = T .wide;
   many = T .many;
@@ -80,7 +80,7 @@ tail-more {e} T j next here L f = record {
 
 -- where a later count, r, at place j leaves no group of g for those before it, no list fits
 behind-crowded : {g e t i low v r : ℕ} {vs h after : List ℕ} → Tail g e t vs i low h → (j : ℕ) → i ≡ suc j → 0 < j → getD vs j 0 ≡ v →
-    Least (λ x. room e (e - 1) 1 x low) v low r → g ≤ r → Behind g e t vs g after
+    Least (λ x. roomBy e (e - 1) 1 x low) v low r → g ≤ r → Behind g e t vs g after
 behind-crowded {g} {e} {vs = vs} T j next p here L f = record {
   some = λ l. absurd (omega arith);
   stored = λ l. absurd (omega arith);
@@ -102,7 +102,7 @@ module _ {g e t v r : ℕ} {vs h : List ℕ} (wide : 3 ≤ e) (many : length vs 
 -- one between the last and the first
 module _ {g e t i low need r : ℕ} {vs h : List ℕ} (T : Tail g e t vs i low h) (later : 1 < i) (some : 0 < low) (more : need ≡ getD vs (i - 1) 0 + 1)
     (L : Least (held (e - 1) 0 low) need low r) where
-  next-least : Least (λ x. room e (e - 1) 1 x low) (getD vs (i - 1) 0) low r
+  next-least : Least (λ x. roomBy e (e - 1) 1 x low) (getD vs (i - 1) 0) low r
   next-least = least-room e (e - 1) 1 some (least-from (e - 1) 1 (getD vs (i - 1) 0) (omega arith) L more)
 
   pub next-stored : r < g → Tail g e t vs (i - 1) r (set h (i - 1) r)

@@ -1,4 +1,5 @@
 // The numbers of an answer: 0 and its values, or a refusal and what it carries.
+use code::refusals;
 use dump::Halt;
 use reading::Reading;
 use reading::Refusal;
@@ -49,8 +50,8 @@ fn of_refusal(refusal: Refusal) -> Reply
         Refusal::Miscounted {
             generation,
             unerased,
-        } => reply_three(15, generation, unerased),
-        Refusal::Beyond { generation } => reply_two(16, generation),
+        } => reply_three(refusals::MISCOUNTED, generation, unerased),
+        Refusal::Beyond { generation } => reply_two(refusals::BEYOND, generation),
     }
 }
 
@@ -92,8 +93,8 @@ pub fn of_halt(halt: Halt) -> Reply
     ensures { λ r. ⌜ r .count ≤ replyMost ⌝ }
 {
     match halt {
-        Halt::Malformed { offset } => reply_two(7, offset as u64),
-        Halt::Oversize => reply_one(8),
+        Halt::Malformed { offset } => reply_two(refusals::MALFORMED, offset as u64),
+        Halt::Oversize => reply_one(refusals::TOO_LONG),
     }
 }
 
@@ -102,7 +103,7 @@ pub fn of_stopped(w: Walked) -> Reply
     ensures { λ r. ⌜ r .count ≤ replyMost ⌝ }
 {
     if w.refusal == 8 {
-        return reply_one(8);
+        return reply_one(refusals::TOO_LONG);
     }
     reply_two(w.refusal, w.offset)
 }

@@ -5,7 +5,8 @@ use mathlib.Core.Bool.{true, false}
 use mathlib.Core.List.{List, [], _∷_, _++_}
 use lib.ListN.{length, take}
 use Rattle.code.specs.declared.Kind.{Kind}
-use Rattle.code.specs.Dump.{barred, opening, startOf, walk, lines, listing}
+use Rattle.code.specs.Dump.{barred, opening, startOf, walk}
+use Rattle.code.specs.Listing.{lines, listing}
 use Rattle.code.proofs.Records.{step-barred}
 use Rattle.code.proofs.Walk.{walk-stopped}
 use Rattle.dump.specs.Answers.{haltNumber, haltCarries}

@@ -9,7 +9,8 @@ use lib.ListN.{length, getD, take, drop}
 use lib.Seq.{take-at}
 use Rattle.code.specs.declared.Kind.{Kind}
 use borrow.Author.Tests.{ne-eqb}
-use Rattle.code.specs.Dump.{Source, entered, opening, cellsOf, outcome, stepReply, recordLine, lastLine, lines, textFrom}
+use Rattle.code.specs.Dump.{Source, entered, opening, cellsOf, outcome, stepReply}
+use Rattle.code.specs.Listing.{recordLine, lastLine, lines, textFrom}
 use Rattle.code.proofs.Tests.{clash, same-test}
 use Rattle.code.proofs.ReadCall.{read-refusing}
 use Rattle.code.proofs.Walk.{walk-ended, walk-stopped, onward-taken}

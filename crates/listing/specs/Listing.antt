@@ -5,7 +5,7 @@ use mathlib.Core.Bool.{true, false, cond}
 use mathlib.Core.List.{List, [], _∷_, _++_}
 use lib.ListN.{length, take}
 use Rattle.code.specs.declared.Kind.{Kind}
-use Rattle.code.specs.Dump.{stopLines, textFrom}
+use Rattle.code.specs.Listing.{stopLines, textFrom}
 use Rattle.text.specs.Within.{PutWithin, readingLine}
 use Rattle.dump.specs.Answers.{dumpMost, haltNumber, haltCarries}
 use Rattle.dump.specs.declared.Halt.{Halt}

@@ -11,7 +11,7 @@ use lib.Seq.{take-at, drop-at, drop-cons, take-append-add, set-append-seam, take
 use lib.Dec.{eqb}
 use borrow.Author.Tests.{ne-eqb}
 use Rattle.code.specs.declared.Shape.{Shape}
-use Rattle.code.specs.Calls.{answer, passes, filled, writeRefusal, writeReply, writeLeaves}
+use Rattle.code.specs.Calls.{answer, passes, filled, writeRefusal, writeReply, writeLeaves, generationIn, turnedIn}
 use Rattle.code.specs.Many.{numbersMost, fieldBytes, manyReplies, manyCells, madeReplies, stopReply, manyNumbers, manyTold}
 use Rattle.code.proofs.WriteCall.{write-some}
 use Rattle.reading.specs.declared.Refusal.{Refusal}
@@ -58,10 +58,10 @@ column-more f made reply column j many low e =
 
 -- the generations and the turned counts of replies
 abbrev pub generationsOf : List (List ℕ) → List ℕ
-generationsOf made = map (λ reply. getD reply 1 0) made
+generationsOf made = map (λ reply. generationIn reply) made
 
 abbrev pub turnedOf : List (List ℕ) → List ℕ
-turnedOf made = map (λ reply. getD reply 2 0) made
+turnedOf made = map (λ reply. turnedIn reply) made
 
 -- j fields are written: their replies are made, and what the definitions say of all is those and what they say of the rest
 pub record Going (s : Shape) (xs bytes cells generations turned : List ℕ) (j : ℕ) : Type 0 where
@@ -170,8 +170,8 @@ module _ {s : Shape} {xs bytes cells generations turned : List ℕ} {j : ℕ} (g
               let e = append-assoc made (one ∷ []) rest in
               (ap madeReplies e ∙ g .accepted (one ∷ rest) .0 ∙ sym (append-assoc made (one ∷ []) (madeReplies rest)), ap stopReply e ∙ g .accepted (one ∷ rest) .1);
           leaves = g .leaves ∙ ap (_++_ (take (j * size) cells)) step′ ∙ rw (dropped, taken, add-one j) (sym (append-assoc (take (j * size) cells) (writeLeaves s x (take size rest)) (manyCells s (drop (suc j) xs) (drop size rest))));
-          generation = column-more (λ reply. getD reply 1 0) made one generations j (g .many) low (g .generation);
-          turns = column-more (λ reply. getD reply 2 0) made one turned j (g .many) low (g .turns);
+          generation = column-more (λ reply. generationIn reply) made one generations j (g .many) low (g .generation);
+          turns = column-more (λ reply. turnedIn reply) made one turned j (g .many) low (g .turns);
         }
 
     -- the field is refused: the answer tells it, and the cells are as they are left

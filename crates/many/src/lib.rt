@@ -1,12 +1,13 @@
 // Document 02, §5: up to 64 numbers, written into as many fields of one layout that lie end to end.
-use code::Frame;
 use code::Shape;
+use code::refusals;
+use shapes::Outline;
 use writing::Writing;
 ghost use mathlib.Core.Path.{_≡_};
 ghost use mathlib.Core.List.{[], _∷_, _++_};
 ghost use Prim.Native.Nat.{_+_, _*_, _≤_};
 ghost use lib.ListN.{length, take, drop, replicate};
-ghost use Rattle.code.specs.Shape.{framed};
+ghost use Rattle.shapes.specs.Outlines.{outlined};
 ghost use Rattle.code.specs.Calls.{writeReply, writeLeaves};
 ghost use Rattle.code.specs.Many.{fieldBytes, manyReplies, manyCells, manyTold, manyReply, manyLeaves};
 ghost use Rattle.writing.specs.Answers.{writingOf};
@@ -54,9 +55,9 @@ fn refuse(refusal: u64) -> End
 }
 
 // How many bytes a field takes.
-fn field_bytes(h: &[u64; 16], f: Frame, v: &[u64; 16]) -> usize
-    requires { ⌜ Granted (framed f (now v)) (now h) ⌝ }
-    ensures { λ r. ⌜ (r ≡ fieldBytes (framed f (now (v .entry)))) × (r ≤ 128) ⌝ }
+fn field_bytes(h: &[u64; 16], f: Outline, v: &[u64; 16]) -> usize
+    requires { ⌜ Granted (outlined f (now v)) (now h) ⌝ }
+    ensures { λ r. ⌜ (r ≡ fieldBytes (outlined f (now (v .entry)))) × (r ≤ 128) ⌝ }
 {
     (f.m * h[0] + 7) as usize / 8
 }
@@ -64,18 +65,18 @@ fn field_bytes(h: &[u64; 16], f: Frame, v: &[u64; 16]) -> usize
 // Writes the field of so many bytes that begins at a place of the cells.
 fn write_one(
     h: &[u64; 16],
-    f: Frame,
+    f: Outline,
     v: &[u64; 16],
     cells: &mut [u8],
     at: usize,
     size: usize,
     x: u64,
 ) -> Writing
-    requires { ⌜ (Granted (framed f (now v)) (now h)) × (at + size ≤ length (now cells)) ⌝ }
-    ensures { λ r. ⌜ writingOf r ≡ writeReply (framed f (now (v .entry))) x (take size (drop at (now (cells .entry)))) ⌝ }
+    requires { ⌜ (Granted (outlined f (now v)) (now h)) × (at + size ≤ length (now cells)) ⌝ }
+    ensures { λ r. ⌜ writingOf r ≡ writeReply (outlined f (now (v .entry))) x (take size (drop at (now (cells .entry)))) ⌝ }
     ensures { λ r.
         let before = now (cells .entry) in
-        ⌜ now (cells .exit) ≡ take at before ++ (writeLeaves (framed f (now (v .entry))) x (take size (drop at before)) ++ drop size (drop at before)) ⌝ }
+        ⌜ now (cells .exit) ≡ take at before ++ (writeLeaves (outlined f (now (v .entry))) x (take size (drop at before)) ++ drop size (drop at before)) ⌝ }
 {
     writing::write_granted(h, f, v, &mut cells[at..at + size], x)
 }
@@ -83,20 +84,20 @@ fn write_one(
 // Writes the numbers in order up to the first refusal.
 fn write_fields(
     h: &[u64; 16],
-    f: Frame,
+    f: Outline,
     v: &[u64; 16],
     cells: &mut [u8],
     size: usize,
     numbers: &[u64],
     rows: &mut [u16; 128],
 ) -> End
-    requires { let s = framed f (now v) in
+    requires { let s = outlined f (now v) in
         ⌜ (Granted s (now h)) × (size ≡ fieldBytes s) × (length (now numbers) ≤ 64) × (length (now cells) ≡ length (now numbers) * size) ⌝ }
     requires { ⌜ now rows ≡ replicate 128 0 ⌝ }
     ensures { λ r.
-        let replies = manyReplies (framed f (now (v .entry))) (now (numbers .entry)) (now (cells .entry)) in
+        let replies = manyReplies (outlined f (now (v .entry))) (now (numbers .entry)) (now (cells .entry)) in
         ⌜ (endOf r ∷ take 64 (now (rows .exit)) ∷ drop 64 (now (rows .exit)) ∷ []) ≡ manyTold replies ⌝ }
-    ensures { λ r. ⌜ now (cells .exit) ≡ manyCells (framed f (now (v .entry))) (now (numbers .entry)) (now (cells .entry)) ⌝ }
+    ensures { λ r. ⌜ now (cells .exit) ≡ manyCells (outlined f (now (v .entry))) (now (numbers .entry)) (now (cells .entry)) ⌝ }
 {
     let mut j = 0;
     while j < numbers.len() {
@@ -136,10 +137,10 @@ fn write_all(s: Shape, cells: &mut [u8], numbers: &[u64], rows: &mut [u16; 128])
     ensures { λ r. ⌜ now (cells .exit) ≡ manyLeaves s (now (numbers .entry)) (now (cells .entry)) ⌝ }
 {
     if NUMBERS_MOST < numbers.len() {
-        return refuse(14);
+        return refuse(refusals::NUMBERS);
     }
     let mut h = [0u64; 16];
-    let f = layout::frame(s);
+    let f = shapes::outline_of(s);
     let v = s.v;
     let refusal = layout::lay_into(&mut h, f, &v, 256);
     if refusal != 0 {
@@ -147,7 +148,7 @@ fn write_all(s: Shape, cells: &mut [u8], numbers: &[u64], rows: &mut [u16; 128])
     }
     let size = field_bytes(&h, f, &v);
     if cells.len() != numbers.len() * size {
-        return refuse(3);
+        return refuse(refusals::CELLS);
     }
     write_fields(&h, f, &v, cells, size, numbers, rows)
 }

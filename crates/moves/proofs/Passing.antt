@@ -8,7 +8,8 @@ use lib.Seq.{length-take-le}
 use Rattle.code.specs.declared.Kind.{Kind}
 use Rattle.code.specs.declared.Kind.the-variants.{Old}
 use Rattle.code.specs.LayoutList.{Listed, listedOf}
-use Rattle.code.specs.Dump.{Record, recordOf, Source, taken, ended, stopped, barred, openingAs, opening, step, cellsOf, onward, startOf, walk}
+use Rattle.code.specs.Dump.{Record, Source, taken, ended, stopped, barred, openingAs, opening, step, cellsOf, onward, startOf, walk}
+use Rattle.code.specs.Export.{recordOf}
 use Rattle.code.specs.NewDump.{Entry, entryHead, recordsOf, entriesOf, stopOf, placeOf, numbered}
 use Rattle.code.proofs.Records.{open-short, step-barred}
 use Rattle.code.proofs.Walk.{entered-short, step-forward, walk-ended, walk-stopped, onward-taken}

@@ -6,7 +6,8 @@ use native.Mathlib.Omega.{arith}
 use lib.ListN.{length, length-append}
 use Rattle.code.specs.declared.Kind.{Kind}
 use Rattle.code.specs.LayoutList.{Listed}
-use Rattle.code.specs.Dump.{Record, recordOf, Source, ownLayouts, listedLayouts, headLength, taken, ended, stopped, step, cellsOf, onward, walk}
+use Rattle.code.specs.Dump.{Record, Source, ownLayouts, listedLayouts, headLength, taken, ended, stopped, step, cellsOf, onward, walk}
+use Rattle.code.specs.Export.{recordOf}
 use Rattle.code.specs.NewDump.{Entry, entryHead, recordsOf, entriesOf, numbered, stopOf}
 use Rattle.code.proofs.Tests.{clash}
 use Rattle.code.proofs.Digits.{sevens-few}

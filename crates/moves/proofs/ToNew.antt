@@ -11,7 +11,8 @@ use Rattle.code.specs.declared.Kind.the-variants.{Old}
 use Rattle.code.specs.Lists.{Below}
 use Rattle.code.specs.Numerals.{numeralsOf}
 use Rattle.code.specs.LayoutList.{Listed, listedOf}
-use Rattle.code.specs.Dump.{Record, recordOf, listedLayouts, taken, ended, step, cellsOf, walk}
+use Rattle.code.specs.Dump.{Record, listedLayouts, taken, ended, step, cellsOf, walk}
+use Rattle.code.specs.Export.{recordOf}
 use Rattle.code.specs.NewDump.{Entry, entryHead, recordsOf, newDumpOf, stopOf, placeOf, joined, firstUse, numbered}
 use Rattle.code.specs.NewDump.{toNew, toNewRefusal, toNewReply, toNewLeaves}
 use Rattle.code.proofs.Wits.{Bytes}

@@ -12,7 +12,8 @@ use Rattle.code.specs.declared.Kind.the-variants.{New}
 use Rattle.code.specs.declared.Shape.{Shape}
 use Rattle.code.specs.Shape.{shaped}
 use Rattle.code.specs.LayoutList.{Listed, unlisted, listedShape, layoutList}
-use Rattle.code.specs.Dump.{Record, Source, listedMany, recordOf, ownLayouts, cellsOf, walk}
+use Rattle.code.specs.Dump.{Record, Source, listedMany, ownLayouts, cellsOf, walk}
+use Rattle.code.specs.Export.{recordOf}
 use Rattle.code.specs.NewDump.{entryHead, stopOf, listedIn, foreign, toOld, toOldRefusal, toOldReply, toOldLeaves}
 use Rattle.code.proofs.FirstUse.{records-numbered}
 use Rattle.records.specs.declared.Said.{Said}

@@ -15,6 +15,7 @@ use Rattle.code.proofs.Told.{toldOf}
 use Rattle.code.proofs.Moves as Moves
 use Rattle.code.proofs.Moves.{storedNew, storedOld, stored-new, stored-old, SettledDump, new-refused-stores, old-refused-stores}
 use Rattle.code.proofs.MovedTold.{moved-told, back-told}
+use Rattle.code.specs.Calls.{refusalIn}
 use Rattle.moves.specs.Answers.{movedOf}
 use Rattle.moves.specs.declared.Moved.{Moved}
 use Rattle.moves.specs.declared.Moved.the-variants.{Stored, Refused}
@@ -38,18 +39,18 @@ gives bytes reply leaves out after r a p l =
       stores = rw (l, a .stores) (take-append-seam bytes (drop (length bytes) out));
     }
 
-no-room : (reply leaves out after : List ℕ) (r : Moved) → reply ≡ 9 ∷ [] → ((getD reply 0 0 ≡ 0 → ⊥) → leaves ≡ out) → movedOf r ≡ reply →
+no-room : (reply leaves out after : List ℕ) (r : Moved) → reply ≡ 9 ∷ [] → ((refusalIn reply ≡ 0 → ⊥) → leaves ≡ out) → movedOf r ≡ reply →
     after ≡ leaves → NoRoom r after out
 no-room reply leaves out after r n k p l =
     let q : movedOf r ≡ 9 ∷ [] = p ∙ n in
     record {
       answers = same-moved r (Refused 9) q;
-      stores = l ∙ k (λ e. let z : getD reply 0 0 ≡ 9 = ap (λ xs. getD xs 0 0) n in omega arith);
+      stores = l ∙ k (λ e. let z : refusalIn reply ≡ 9 = ap (λ xs. getD xs 0 0) n in omega arith);
     }
 
 -- An old dump that moves: what was stored tells the same, and moves back to the old bytes.
 module _ (bytes out after : List ℕ) (n : ℕ) (b : Bytes bytes) (p : movedOf (Stored n) ≡ toNewReply bytes out) (a : after ≡ toNewLeaves bytes out) where
-  moved : getD (toNewReply bytes out) 0 0 ≡ 0
+  moved : refusalIn (toNewReply bytes out) ≡ 0
   moved = ap (λ xs. getD xs 0 0) (sym p)
 
   stored : take n after ≡ storedNew bytes out
@@ -69,7 +70,7 @@ module _ (bytes out after : List ℕ) (n : ℕ) (b : Bytes bytes) (p : movedOf (
 
 -- A new dump that moves back: what was stored tells the same, and where the dump was settled it moves to the new bytes.
 module _ (bytes out after : List ℕ) (n : ℕ) (b : Bytes bytes) (p : movedOf (Stored n) ≡ toOldReply bytes out) (a : after ≡ toOldLeaves bytes out) where
-  returned : getD (toOldReply bytes out) 0 0 ≡ 0
+  returned : refusalIn (toOldReply bytes out) ≡ 0
   returned = ap (λ xs. getD xs 0 0) (sym p)
 
   restored : take n after ≡ storedOld bytes out

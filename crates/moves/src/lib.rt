@@ -10,7 +10,7 @@ ghost use mathlib.Core.Path.{_≡_};
 ghost use Prim.Native.Nat.{_+_, _^_, _≤_};
 ghost use lib.ListN.{length};
 ghost use Rattle.code.specs.Lists.{Below};
-ghost use Rattle.code.specs.Dump.{recordOf};
+ghost use Rattle.code.specs.Export.{recordOf};
 ghost use Rattle.code.specs.NewDump.{toNewReply, toNewLeaves, toOldReply, toOldLeaves};
 ghost use Rattle.storing.specs.Put.{Put};
 ghost use Rattle.dump.specs.Answers.{haltOf};

@@ -1,6 +1,7 @@
 // Calls as they stand in the stream. Each number is tested as soon as it is read, so that a call that is both too long and cut off later is too long.
 use crate::parts;
 use crate::parts::Front;
+use binary::wide;
 use code::Kind;
 use code::Shape;
 ghost use mathlib.Core.Path.{_≡_};
@@ -89,10 +90,6 @@ fn lesser(a: usize, b: usize) -> usize
     ensures { λ r. ⌜ (r ≤ a) × (r ≤ b) ⌝ }
 {
     if a < b { a } else { b }
-}
-
-fn wide(x: u8) -> u64 {
-    x as u64
 }
 
 fn number_at(s: &[u8], at: usize) -> u64

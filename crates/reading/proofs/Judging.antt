@@ -13,21 +13,25 @@ use lib.Arith.{lt-of-le-ne}
 use lib.Pow.{pow-mono}
 use borrow.Author.Tests.{not-true}
 use Rattle.code.specs.declared.Shape.{Shape}
-use Rattle.code.specs.Shape.{firstOf, rangesOf, orderOf, countsOf, widthOf}
+use Rattle.code.specs.Shape.{firstOf, rangesOf, orderOf, countsOf, widthOf, codeOf}
 use Rattle.code.specs.Count.{fewer}
 use Rattle.code.specs.Deal.{written, number, plain}
-use Rattle.code.specs.Chosen.{ranked, patternMost}
+use Rattle.code.proofs.Chosen.{ranked, patternMost}
 use Rattle.code.specs.Cells.{wit, opened, sound}
+use Rattle.code.specs.declared.Dealing.{Dealing}
+use Rattle.code.specs.declared.Dealing.the-variants.{Patterns, Digits}
+use Rattle.code.specs.declared.Generation.{Generation}
+use Rattle.code.specs.Code.{dealt, generationAt, told}
 use Rattle.code.specs.Field as Field
 use Rattle.code.specs.Calls.{readCells, fieldRead, numberless, miscounts, exceeds, generation, holds, left, readReply, filled, layoutFields, layoutReply}
 use Rattle.code.proofs.Tests.{le-or-lt}
 use Rattle.code.proofs.Deal.{written-le}
+use Rattle.code.proofs.Places.{Dealable, dealt-dealable}
 use Rattle.code.proofs.Chosen.{rank-chosen, digits-chosen}
-use Rattle.code.proofs.Places.{told-last, told-before}
 use Rattle.code.proofs.Groups.{zeros-written, zeros-blank, unerased-zeros, zeros-padded, unerased-padded}
 use Rattle.code.proofs.Field.{past-next, read-blank, read-judged, judged-reads, judged-beyond, judged-miscounted}
 use Rattle.code.proofs.Cells.{groups-length}
-use Rattle.code.proofs.LayoutCall.{range-within}
+use Rattle.code.proofs.LayoutCall.{range-within, counts-near, first-form}
 use Rattle.code.proofs.ReadCall.{read-no-layout, read-unsound, read-none, read-miscounted, read-beyond, read-found}
 use Rattle.counting.specs.Cap.{sat}
 use Rattle.words.specs.Words.{wordGroups, frontGroups, frontAt}
@@ -37,7 +41,7 @@ use Rattle.words.proofs.Joined.{seen-pickable, front-pickable}
 use Rattle.cells.specs.Cells.{Loadable, Loaded}
 use Rattle.layout.specs.Plan.{Granted}
 use Rattle.layout.proofs.Planning.{plan-refused}
-use Rattle.reading.specs.Answers.{answerOf, judgedIn, readIn, SoundCells, fieldGroups, Holds, Looked, Close, Ranged}
+use Rattle.reading.specs.Answers.{answerOf, judgedIn, readIn, SoundCells, fieldGroups, Holds, Looked, Close, Ranged, Tellable}
 
 -- The number that places tell, from their labels and values, and from their digits.
 pub pattern-told : (b fewest s : ℕ) (xs at less : List ℕ) (k r : ℕ) → Gathered xs at less k → s ≡ length xs →
@@ -50,51 +54,57 @@ pattern-told b fewest s xs at less k r G l q =
 pub gathered-few : {xs at less : List ℕ} {k s : ℕ} → Gathered xs at less k → s ≡ length xs → k ≤ s
 gathered-few {xs} G l = omega (arith, G .chosen .count, l, written-le xs)
 
--- the written places are those that are not zero
-pub written-few : (xs : List ℕ) (places next : ℕ) → places ≡ length xs → places ≤ next + patternMost → next ≤ Field.zeros xs → written xs ≤ patternMost
-written-few xs places next l few h = omega (arith, l, zeros-written xs)
-
 pub digits-told : (e : ℕ) (xs vs : List ℕ) (k r : ℕ) → Listed xs vs k → r ≡ sat (plain e (take k vs)) → r ≡ sat (plain e xs)
 digits-told e xs vs k r L q = rw (← L .made) q
 
-pub last-told : (e b fewest next : ℕ) (xs : List ℕ) (x r : ℕ) → next ≡ 0 → x ≡ sat (plain e xs) → r ≡ x - 1 → Close (Field.told e b fewest next xs) r
-last-told e b fewest next xs x r z q t =
-    rw (told-last e b fewest next z xs) (record { exact = λ h. omega (arith, q, t); large = λ h. omega (arith, q, t) })
+-- the two ways to deal
+module _ {d : Dealing} {e : ℕ} (q : d ≡ Digits e) where
+  pub digits-few : {m : ℕ} {g : Generation} {xs : List ℕ} → Tellable m g xs → g .dealing ≡ d → (length xs ≤ patternMost) × (0 < e) × (e ≤ 15)
+  digits-few {m} {g} T w = let k : Dealable m (Digits e) (g .next) = rw (w, q) at (T .deals) in (omega (arith, T .many, T .few, k .3), k .0, k .1)
 
-pub before-told : (e b fewest next : ℕ) (xs : List ℕ) (r : ℕ) → next ≢ 0 → r ≡ sat (number b fewest xs) → Close (Field.told e b fewest next xs) r
-before-told e b fewest next xs r d q =
-    rw (told-before e b fewest next xs (lt-of-le-ne (omega arith) (λ z. d (sym z)))) (record { exact = λ h. omega (arith, q); large = λ h. omega (arith, q) })
+  pub last-told : (xs : List ℕ) (x r : ℕ) → x ≡ sat (plain e xs) → r ≡ x - 1 → Close (told d xs) r
+  unfolding told
+  last-told xs x r k t = rw q (record { exact = λ h. omega (arith, k, t); large = λ h. omega (arith, k, t) })
+
+module _ {d : Dealing} {b fewest : ℕ} (q : d ≡ Patterns b fewest) where
+  pub pattern-few : {m : ℕ} {g : Generation} {xs : List ℕ} → Tellable m g xs → g .dealing ≡ d → (written xs ≤ patternMost) × (1 < b) × (b ≤ 15) × (fewest ≤ 1)
+  pattern-few {m} {g} {xs} T w =
+      let k : Dealable m (Patterns b fewest) (g .next) = rw (w, q) at (T .deals) in
+      (omega (arith, T .many, T .few, T .blank, zeros-written xs), k .0, k .1, k .3)
+
+  pub before-told : (xs : List ℕ) (r : ℕ) → r ≡ sat (number b fewest xs) → Close (told d xs) r
+  unfolding told
+  before-told xs r k = rw q (record { exact = λ h. omega (arith, k); large = λ h. omega (arith, k) })
+
+-- The generation at a place, from what is asked of the layout.
+pub generation-made : {s : Shape} {h : List ℕ} → Granted s h → (i e first next v : ℕ) (d : Dealing) → e ≡ 2 ^ s .m - 1 → first ≡ firstOf s →
+    next ≡ getD h (suc i) 0 → d ≡ dealt e first i next → v ≡ getD (rangesOf s) i 0 →
+    _≡_ {A = Generation} (record { places = getD h i 0; next = next; dealing = d; range = v }) (generationAt (codeOf s) i)
+generation-made G i e first next v d qe qf qn qd qv = rw (qd, qe, qf, qn, qv, G .each i, G .each (suc i))
 
 -- What is judged at a place whose marked groups are its places.
-module _ {s : Shape} {h : List ℕ} (G : Granted s h) (i : ℕ) (l : i < s .t) (xs : List ℕ) (many : length xs ≡ getD (countsOf s) i 0) where
-  pub judged-is : (fewest x v : ℕ) (r : Field.Reading) → fewest ≡ Field.fewest (firstOf s) i → v ≡ getD (rangesOf s) i 0 →
-      let e = 2 ^ s .m - 1 in
-      Close (Field.told e (Field.base e i) fewest (getD h (suc i) 0) xs) x → Ranged i v x r → (gs : List ℕ) → Field.carriers e i gs ≡ xs →
-      r ≡ judgedIn s gs i
-  judged-is fewest x v r o w C R gs c =
-      elim (le-or-lt v x) [
-        | inl beyond ↦
-            R .outside beyond ∙ sym
-            (judged-beyond e (firstOf s) (countsOf s) (rangesOf s) gs xs i y c many refl (omega (arith, w, same, far beyond)))
-        | inr inside ↦
-            let t : x ≡ Field.told e (Field.base e i) fewest (getD h (suc i) 0) xs = C .exact (omega (arith, w, high)) in
-            R .inside inside ∙ sym (judged-reads e (firstOf s) (countsOf s) (rangesOf s) gs xs i x c many (sym same ∙ sym t) (omega (arith, w)))
-      ]
+module _ {s : Shape} {h : List ℕ} (G : Granted s h) (i : ℕ) (l : i < s .t) (xs : List ℕ) (many : length xs ≡ generationAt (codeOf s) i .places) where
+  pub judged-is : (g : Generation) (x : ℕ) (r : Field.Reading) → g ≡ generationAt (codeOf s) i → Close (told (g .dealing) xs) x → Ranged i (g .range) x r →
+      (gs : List ℕ) → Field.carriers (2 ^ s .m - 1) i gs ≡ xs → r ≡ judgedIn s gs i
+  judged-is g x r o C R gs c = elim (le-or-lt v x) [
+    | inl beyond ↦ RR .outside beyond ∙ sym (judged-beyond (codeOf s) gs xs i _ c many refl (far beyond))
+    | inr inside ↦ RR .inside inside ∙ sym (judged-reads (codeOf s) gs xs i x c many (sym (CC .exact (omega (arith, high)))) inside)
+  ]
     where
-      e : ℕ
-      e = 2 ^ s .m - 1
+      v : ℕ
+      v = generationAt (codeOf s) i .range
 
-      y : ℕ
-      y = Field.told e (Field.base e i) (Field.fewest (firstOf s) i) (getD (countsOf s) (suc i) 0) xs
+      CC : Close (told (generationAt (codeOf s) i .dealing) xs) x
+      CC = rw o at C
 
-      same : Field.told e (Field.base e i) fewest (getD h (suc i) 0) xs ≡ y
-      same = rw (o, G .each (suc i))
+      RR : Ranged i v x r
+      RR = rw o at R
 
-      high : getD (rangesOf s) i 0 ≤ 2 ^ 56
+      high : v ≤ 2 ^ 56
       high = range-within s (G .bounds) i l .1
 
-      far : v ≤ x → v ≤ Field.told e (Field.base e i) fewest (getD h (suc i) 0) xs
-      far h = elim (le-or-lt (2 ^ 56) x) [ inl k ↦ omega (arith, C .large k, w, high) | inr k ↦ omega (arith, C .exact k) ]
+      far : v ≤ x → v ≤ told (generationAt (codeOf s) i .dealing) xs
+      far h = elim (le-or-lt (2 ^ 56) x) [ inl k ↦ omega (arith, CC .large k, high) | inr k ↦ omega (arith, CC .exact k) ]
 
 -- the marked groups of the words are the places of the generation at place i
 pub record Placed (s : Shape) (n i : ℕ) (words marks : List ℕ) : Type 0 where
@@ -103,8 +113,18 @@ pub record Placed (s : Shape) (n i : ℕ) (words marks : List ℕ) : Type 0 wher
   pub blank : getD (countsOf s) (suc i) 0 ≤ Field.zeros (frontAt (s .m) n marks words)
   pub held : Field.carriers (2 ^ s .m - 1) i (fieldGroups s n words) ≡ frontAt (s .m) n marks words
 
+-- they may be told
+pub tellable : {s : Shape} {h : List ℕ} → Granted s h → {n i : ℕ} {words marks : List ℕ} → Placed s n i words marks → (g : Generation) →
+    g ≡ generationAt (codeOf s) i → Tellable (s .m) g (frontAt (s .m) n marks words)
+tellable {s} G {n} {i} P g q = rw q (record {
+  many = sym (P .many);
+  few = omega (arith, counts-near s (G .ok) i);
+  blank = P .blank;
+  deals = dealt-dealable (s .m) (firstOf s) i (getD (countsOf s) (suc i) 0) (G .bounds .m-low) (G .bounds .m-high) (first-form s);
+})
+
 -- The field's groups among those of the words: the groups behind them are erased.
-module _ {s : Shape} {h : List ℕ} (G : Granted s h) {n : ℕ} {words : List ℕ} (H : Holds s n words) where
+module _ {s : Shape} {h : List ℕ} (G : Granted s h) {n : ℕ} {words : List ℕ} (H : Holds (s .m) (widthOf s) n words) where
   pub full : 2 ^ s .m - 1 ≡ suc (2 ^ s .m - 2)
   full = omega (arith, pow-mono (G .bounds .m-low))
 
@@ -139,7 +159,7 @@ module _ {s : Shape} {h : List ℕ} (G : Granted s h) {n : ℕ} {words : List �
     reading = readIn s (fieldGroups s n words)
 
     pub reads-blank : seen .zeros ≡ getD h 0 0 → Field.blank ≡ reading
-    reads-blank e = sym (read-blank (2 ^ s .m - 1) (firstOf s) (countsOf s) (rangesOf s) (fieldGroups s n words) (blank-here e))
+    reads-blank e = sym (read-blank (codeOf s) (fieldGroups s n words) (blank-here e))
 
     module _ (d : seen .zeros ≢ getD h 0 0) (i : ℕ) (p : i ≡ Field.past (take (s .t) h) (seen .zeros)) where
       past-here : Field.past (countsOf s) (Field.zeros (fieldGroups s n words)) ≡ i
@@ -147,7 +167,7 @@ module _ {s : Shape} {h : List ℕ} (G : Granted s h) {n : ℕ} {words : List �
 
       pub reads-at : (r : Field.Reading) → r ≡ judgedIn s (fieldGroups s n words) i → r ≡ reading
       reads-at r q =
-          q ∙ sym (read-judged (2 ^ s .m - 1) (firstOf s) (countsOf s) (rangesOf s) (fieldGroups s n words) i (used-here d) past-here)
+          q ∙ sym (read-judged (codeOf s) (fieldGroups s n words) i (used-here d) past-here)
 
       -- the zero groups are at least as many as the next generation has places
       zeros-left : getD (countsOf s) (suc i) 0 ≤ Field.zeros (fieldGroups s n words)
@@ -168,7 +188,7 @@ module _ {s : Shape} {h : List ℕ} (G : Granted s h) {n : ℕ} {words : List �
         reads-miscounted wrong =
             reads-at (Field.miscounted (i + 1) (seen .unerased))
             (rw (add-one i, many)
-            (sym (judged-miscounted (2 ^ s .m - 1) (firstOf s) (countsOf s) (rangesOf s) (fieldGroups s n words) (frontAt (s .m) n marks words) i carried
+            (sym (judged-miscounted (codeOf s) (fieldGroups s n words) (frontAt (s .m) n marks words) i carried
             (λ q. wrong (many ∙ q ∙ sym (G .each i))))))
 
         later-placed : seen .unerased ≡ getD h i 0 → Placed s n i words marks
@@ -221,7 +241,7 @@ module _ {s : Shape} {h : List ℕ} (G : Granted s h) (bs : List ℕ) where
           (take-at (opened (orderOf s) (s .m) (getD (countsOf s) 0 0) bs) (replicate (wordGroups (s .m) * n - getD (countsOf s) 0 0) (2 ^ s .m - 1))
           (getD (countsOf s) 0 0) (groups-length (s .m) (getD (countsOf s) 0 0) (wit (orderOf s) bs)))
 
-      pub loaded-holds : Holds s n words
+      pub loaded-holds : Holds (s .m) (widthOf s) n words
       unfolding widthOf
       loaded-holds = record {
         long = L .long;

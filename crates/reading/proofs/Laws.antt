@@ -11,7 +11,9 @@ use borrow.Author.Tests.{le-leb, lt-leb}
 use mathlib.Core.Logic.{_≢_}
 use Rattle.code.specs.declared.Shape.{Shape}
 use Rattle.code.specs.Shape.{countsOf}
-use Rattle.code.specs.Field.{past, base, fewest}
+use Rattle.code.specs.declared.Dealing.the-variants.{Patterns, Digits}
+use Rattle.code.specs.Code.{dealt, deals}
+use Rattle.code.specs.Field.{past}
 use Rattle.layout.specs.Plan.{Granted}
 
 -- n generations are passed, and what is left of the list says how many more
@@ -43,21 +45,15 @@ module _ {hs : List ℕ} {z n : ℕ} (P : Passing hs z n) where
 pub none-behind : {s : Shape} {h : List ℕ} → Granted s h → getD h 16 0 ≡ 0
 none-behind {s} G = G .each 16 ∙ List·getD-eq-default (countsOf s) 0 {n = 16} (omega (arith, G .many, G .bounds .t-high))
 
--- the first place, and a later one
-pub base-first : (e n : ℕ) → n ≡ 0 → e ≡ base e n
-unfolding base
-base-first e n z = rw z
+-- the last generation, and those before it
+pub dealt-last : (e first n next : ℕ) → next ≡ 0 → Digits e ≡ dealt e first n next
+unfolding dealt deals
+dealt-last e first zero next z = rw z
+dealt-last e first (suc n) next z = rw z
 
-pub base-later : (e n : ℕ) → n ≢ 0 → e - 1 ≡ base e n
-unfolding base
-base-later e zero d = absurd (d refl)
-base-later e (suc n) d = refl
-
-pub fewest-first : (first n : ℕ) → n ≡ 0 → first ≡ fewest first n
-unfolding fewest
-fewest-first first n z = rw z
-
-pub fewest-later : (first n : ℕ) → n ≢ 0 → 1 ≡ fewest first n
-unfolding fewest
-fewest-later first zero d = absurd (d refl)
-fewest-later first (suc n) d = refl
+pub dealt-before : (e first n next values fewest : ℕ) → next ≢ 0 → (n ≡ 0 → values ≡ e) × (n ≢ 0 → values ≡ e - 1) →
+    (n ≡ 0 → fewest ≡ first) × (n ≢ 0 → fewest ≡ 1) → Patterns values fewest ≡ dealt e first n next
+unfolding dealt deals
+dealt-before e first n zero values fewest d v f = absurd (d refl)
+dealt-before e first zero (suc next) values fewest d v f = rw (v .0 refl, f .0 refl)
+dealt-before e first (suc n) (suc next) values fewest d v f = let later : suc n ≢ 0 = λ z. absurd (omega arith) in rw (v .1 later, f .1 later)

@@ -1,12 +1,15 @@
 -- Document 01, "Reading", and document 02, §2 and §6 (RULES 5): the answers of read as replies, and what the functions between them cite.
-use Prim.Native.Nat.{ℕ, suc, _*_, _-_, _^_, _<_, _≤_}
+use Prim.Native.Nat.{ℕ, suc, _+_, _*_, _-_, _^_, _<_, _≤_}
 use mathlib.Core.Path.{_≡_}
 use mathlib.Core.Bool.{true, cond}
 use mathlib.Core.List.{List, [], _∷_, _++_}
 use lib.Dec.{eqb}
 use lib.ListN.{length, take, replicate}
 use Rattle.code.specs.declared.Shape.{Shape}
-use Rattle.code.specs.Shape.{firstOf, rangesOf, orderOf, countsOf, widthOf}
+use Rattle.code.specs.declared.Generation.{Generation}
+use Rattle.code.proofs.Chosen.{patternMost}
+use Rattle.code.proofs.Places.{Dealable}
+use Rattle.code.specs.Shape.{orderOf, widthOf, codeOf}
 use Rattle.code.specs.Cells.{opened, sound}
 use Rattle.code.specs.Field as Field
 use Rattle.words.specs.Words.{wordGroups, Tidy, frontGroups}
@@ -53,30 +56,33 @@ answerOf form t (Field.beyond i) = 16 ∷ i ∷ []
 
 -- what groups read as by the layout of a shape, and at a place of it
 abbrev pub judgedIn : Shape → List ℕ → ℕ → Field.Reading
-judgedIn s gs i = Field.judged (2 ^ s .m - 1) (firstOf s) (countsOf s) (rangesOf s) gs i
+judgedIn s gs i = Field.judged (codeOf s) gs i
 
 abbrev pub readIn : Shape → List ℕ → Field.Reading
-readIn s gs = Field.read (2 ^ s .m - 1) (firstOf s) (countsOf s) (rangesOf s) gs
+readIn s gs = Field.read (codeOf s) gs
 
 -- RULES 3: cells that refusal 3 is not for
 abbrev pub SoundCells : Shape → List ℕ → Type 0
 SoundCells s bs = sound (orderOf s) (s .m) (widthOf s) bs ≡ true
 
--- the groups of a field in the first n words
-abbrev pub fieldGroups : Shape → ℕ → List ℕ → List ℕ
-fieldGroups s n words = take (widthOf s) (frontGroups (s .m) n words)
+-- the h groups of a field in the first n words
+abbrev pub heldGroups : ℕ → ℕ → ℕ → List ℕ → List ℕ
+heldGroups m h n words = take h (frontGroups m n words)
 
--- the words hold the field's groups, and behind them groups of all ones
-pub record Holds (s : Shape) (n : ℕ) (words : List ℕ) : Type 0 where
+abbrev pub fieldGroups : Shape → ℕ → List ℕ → List ℕ
+fieldGroups s n words = heldGroups (s .m) (widthOf s) n words
+
+-- the words hold a field's h groups, and behind them groups of all ones
+pub record Holds (m h n : ℕ) (words : List ℕ) : Type 0 where
   pub long : length words ≡ 16
-  pub ends : Ends (s .m) n (widthOf s)
-  pub tidy : Tidy (s .m) n words
-  pub many : length (fieldGroups s n words) ≡ widthOf s
-  pub padded : frontGroups (s .m) n words ≡ fieldGroups s n words ++ replicate (wordGroups (s .m) * n - widthOf s) (2 ^ s .m - 1)
+  pub ends : Ends m n h
+  pub tidy : Tidy m n words
+  pub many : length (heldGroups m h n words) ≡ h
+  pub padded : frontGroups m n words ≡ heldGroups m h n words ++ replicate (wordGroups m * n - h) (2 ^ m - 1)
 
 -- n words hold the groups of the bytes bs, z of them zero, which read as r
 pub record Looked (s : Shape) (bs words : List ℕ) (n z : ℕ) (r : Field.Reading) : Type 0 where
-  pub holds : Holds s n words
+  pub holds : Holds (s .m) (widthOf s) n words
   pub same : fieldGroups s n words ≡ opened (orderOf s) (s .m) (widthOf s) bs
   pub none : z ≡ Field.zeros (fieldGroups s n words)
   pub read : r ≡ readIn s (fieldGroups s n words)
@@ -90,3 +96,10 @@ pub record Close (y r : ℕ) : Type 0 where
 pub record Ranged (i v x : ℕ) (r : Field.Reading) : Type 0 where
   pub inside : x < v → r ≡ Field.reads (suc i) x
   pub outside : v ≤ x → r ≡ Field.beyond (suc i)
+
+-- groups that may be the places of a generation
+pub record Tellable (m : ℕ) (g : Generation) (xs : List ℕ) : Type 0 where
+  pub many : g .places ≡ length xs
+  pub few : g .places ≤ g .next + patternMost
+  pub blank : g .next ≤ Field.zeros xs
+  pub deals : Dealable m (g .dealing) (g .next)

@@ -1,16 +1,18 @@
 // Reading one field: document 01, "Reading", with the refusals in the table's order.
 pub mod telling;
 
-use code::Frame;
 use code::Shape;
+use code::refusals;
 use layout::Plan;
+use shapes::Outline;
 use words::Seen;
 ghost use mathlib.Core.Path.{_≡_};
 ghost use mathlib.Core.Logic.{_≢_};
 ghost use mathlib.Core.Bool.{true, false};
 ghost use Prim.Native.Nat.{_-_, _<_};
 ghost use lib.ListN.{length, getD};
-ghost use Rattle.code.specs.Shape.{framed};
+ghost use Rattle.code.specs.Shape.{widthOf};
+ghost use Rattle.shapes.specs.Outlines.{outlined};
 ghost use Rattle.code.specs.Field as Field;
 ghost use Rattle.code.specs.Calls.{filled, readFields, readReply};
 ghost use Rattle.words.specs.Marks.{Ends, Fronted, Viewed};
@@ -98,15 +100,16 @@ fn mark_places(h: &[u64; 16], m: u64, n: usize, i: usize, marks: &mut [u64; 16])
 // What the field's groups in words read as, of which is seen how many are zero and which are not erased.
 fn judge(
     h: &[u64; 16],
-    f: Frame,
+    f: Outline,
     v: &[u64; 16],
     words: &[u64; 16],
     n: usize,
     marks: &mut [u64; 16],
     seen: Seen,
 ) -> Found
-    requires { ⌜ (Granted (framed f (now v)) (now h)) × (Holds (framed f (now v)) n (now words)) × (Viewed (f .m) n (now words) (now marks) seen) ⌝ }
-    ensures { λ r. ⌜ foundOf r ≡ readIn (framed f (now (v .entry))) (fieldGroups (framed f (now (v .entry))) n (now (words .entry))) ⌝ }
+    requires { let s = outlined f (now v) in
+        ⌜ (Granted s (now h)) × (Holds (s .m) (widthOf s) n (now words)) × (Viewed (s .m) n (now words) (now marks) seen) ⌝ }
+    ensures { λ r. ⌜ foundOf r ≡ readIn (outlined f (now (v .entry))) (fieldGroups (outlined f (now (v .entry))) n (now (words .entry))) ⌝ }
     ensures { λ _. ⌜ length (now (marks .exit)) ≡ 16 ⌝ }
 {
     if seen.zeros == h[0] {
@@ -120,8 +123,9 @@ fn judge(
         };
     }
     mark_places(h, f.m, n, i, marks);
-    let x = telling::number_at(h, f.m, telling::fewest(f, i), words, marks, n, i);
-    ranged(i, layout::range_at(f, v, i), x)
+    let g = telling::generation_at(h, f, v, i);
+    let x = telling::tell(words, marks, n, f.m as usize, g);
+    ranged(i, g.range, x)
 }
 
 // The writes left of t after generation i.
@@ -132,11 +136,11 @@ fn writes_left(t: u64, i: u64) -> u64
 }
 
 // Cells that were never written: in form 0 they have generation 1, number 0 and all their writes left, and else no number.
-fn answer_blank(f: Frame) -> Reading
+fn answer_blank(f: Outline) -> Reading
     ensures { λ r. ⌜ readingOf r ≡ answerOf (f .form) (f .t) Field.blank ⌝ }
 {
     if f.form != 0 {
-        return Reading::Refused(Refusal::Plain(11));
+        return Reading::Refused(Refusal::Plain(refusals::BLANK));
     }
     Reading::Read {
         generation: 1,
@@ -146,7 +150,7 @@ fn answer_blank(f: Frame) -> Reading
 }
 
 // A reading as it is answered.
-fn answer(found: Found, f: Frame) -> Reading
+fn answer(found: Found, f: Outline) -> Reading
     ensures { λ r. ⌜ readingOf r ≡ answerOf (f .form) (f .t) (foundOf found) ⌝ }
 {
     match found {
@@ -176,19 +180,19 @@ pub struct Look {
 
 pub fn look_at(
     h: &[u64; 16],
-    f: Frame,
+    f: Outline,
     v: &[u64; 16],
     cells: &[u8],
     words: &mut [u64; 16],
     marks: &mut [u64; 16],
 ) -> Look
-    requires { ⌜ (Granted (framed f (now v)) (now h)) × (SoundCells (framed f (now v)) (now cells)) ⌝ }
+    requires { ⌜ (Granted (outlined f (now v)) (now h)) × (SoundCells (outlined f (now v)) (now cells)) ⌝ }
     requires { ⌜ (length (now words) ≡ 16) × (length (now marks) ≡ 16) ⌝ }
-    ensures { λ r. ⌜ Looked (framed f (now (v .entry))) (now (cells .entry)) (now (words .exit)) (r .n) (r .zeros) (foundOf (r .found)) ⌝ }
+    ensures { λ r. ⌜ Looked (outlined f (now (v .entry))) (now (cells .entry)) (now (words .exit)) (r .n) (r .zeros) (foundOf (r .found)) ⌝ }
     ensures { λ _. ⌜ length (now (marks .exit)) ≡ 16 ⌝ }
 {
     let m = f.m as usize;
-    let n = cells::load(cells, layout::order(f), m, h[0] as usize, words);
+    let n = cells::load(cells, shapes::order(f), m, h[0] as usize, words);
     let seen = words::see(words, n, m, marks);
     let found = judge(h, f, v, words, n, marks, seen);
     Look {
@@ -199,12 +203,12 @@ pub fn look_at(
 }
 
 // The reading of a field whose layout is granted.
-fn read_granted(h: &[u64; 16], f: Frame, v: &[u64; 16], cells: &[u8]) -> Reading
-    requires { ⌜ Granted (framed f (now v)) (now h) ⌝ }
-    ensures { λ r. ⌜ readingOf r ≡ readReply (framed f (now (v .entry))) (now (cells .entry)) ⌝ }
+fn read_granted(h: &[u64; 16], f: Outline, v: &[u64; 16], cells: &[u8]) -> Reading
+    requires { ⌜ Granted (outlined f (now v)) (now h) ⌝ }
+    ensures { λ r. ⌜ readingOf r ≡ readReply (outlined f (now (v .entry))) (now (cells .entry)) ⌝ }
 {
-    if !cells::is_sound(cells, layout::order(f), f.m as usize, h[0] as usize) {
-        return Reading::Refused(Refusal::Plain(3));
+    if !cells::is_sound(cells, shapes::order(f), f.m as usize, h[0] as usize) {
+        return Reading::Refused(Refusal::Plain(refusals::CELLS));
     }
     let mut words = [0u64; 16];
     let mut marks = [0u64; 16];
@@ -216,25 +220,25 @@ fn read_granted(h: &[u64; 16], f: Frame, v: &[u64; 16], cells: &[u8]) -> Reading
 // The reading of a field whose layout is worked out, with its counts in h and its ranges in v.
 pub fn read_by(plan: Plan, h: &[u64; 16], v: &[u64; 16], cells: &[u8]) -> Reading
     requires { ⌜ Planned plan (now v) (now h) ⌝ }
-    ensures { λ r. ⌜ readingOf r ≡ readReply (framed (plan .frame) (now (v .entry))) (now (cells .entry)) ⌝ }
+    ensures { λ r. ⌜ readingOf r ≡ readReply (outlined (plan .outline) (now (v .entry))) (now (cells .entry)) ⌝ }
 {
     if plan.refusal != 0 {
         return Reading::Refused(Refusal::Plain(plan.refusal));
     }
-    read_granted(h, plan.frame, v, cells)
+    read_granted(h, plan.outline, v, cells)
 }
 
 pub fn read(s: Shape, cells: &[u8]) -> Reading
     ensures { λ r. ⌜ readingOf r ≡ readReply s (now (cells .entry)) ⌝ }
 {
-    let f = layout::frame(s);
+    let f = shapes::outline_of(s);
     // Before the counts are cleared, so that a refusal costs little.
-    if bounds::frame_outside(f) {
-        return Reading::Refused(Refusal::Plain(1));
+    if shapes::outline_outside(f) {
+        return Reading::Refused(Refusal::Plain(refusals::BOUNDS));
     }
     let mut h = [0u64; 16];
     let v = s.v;
-    let refusal = layout::lay_framed(&mut h, f, &v, 256);
+    let refusal = layout::lay_outlined(&mut h, f, &v, 256);
     if refusal != 0 {
         return Reading::Refused(Refusal::Plain(refusal));
     }
@@ -254,12 +258,12 @@ pub fn flat_refusal(refusal: Refusal) -> RefusalFields
             generation,
             unerased,
         } => RefusalFields {
-            number: 15,
+            number: refusals::MISCOUNTED,
             generation,
             unerased,
         },
         Refusal::Beyond { generation } => RefusalFields {
-            number: 16,
+            number: refusals::BEYOND,
             generation,
             unerased: 0,
         },

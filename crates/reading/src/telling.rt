@@ -1,17 +1,24 @@
 // The number of a generation: which one the zero groups point to, and what its places tell.
-use code::Frame;
+use code::Dealing;
+use code::Generation;
+use code::PATTERN_MOST;
+use shapes::Outline;
 ghost use mathlib.Core.Path.{_≡_};
+ghost use mathlib.Core.Logic.{_≢_};
 ghost use mathlib.Core.List.{List};
 ghost use Prim.Native.Nat.{ℕ, suc, _+_, _-_, _^_, _<_, _≤_};
 ghost use lib.ListN.{length, getD, take};
-ghost use Rattle.code.specs.Shape.{framed, firstOf};
+ghost use Rattle.code.specs.Shape.{codeOf};
+ghost use Rattle.shapes.specs.Outlines.{outlined};
+ghost use Rattle.code.specs.Code.{dealt, generationAt, told};
 ghost use Rattle.code.specs.Deal.{written, number, plain};
-ghost use Rattle.code.specs.Chosen.{patternMost};
+ghost use Rattle.code.proofs.Chosen.{patternMost};
 ghost use Rattle.code.specs.Field as Field;
 ghost use Rattle.counting.specs.Cap.{sat};
 ghost use Rattle.words.specs.Words.{frontAt};
 ghost use Rattle.words.specs.Marks.{Pickable};
-ghost use Rattle.reading.specs.Answers.{Close};
+ghost use Rattle.reading.specs.Answers.{Close, Tellable};
+ghost use Rattle.layout.specs.Plan.{Granted};
 
 // The place of the generation that z zero groups point to.
 pub fn past(h: &[u64; 16], t: usize, z: u64) -> usize
@@ -39,18 +46,42 @@ pub fn next_count(h: &[u64; 16], i: usize) -> u64
     h[i + 1]
 }
 
-// The values that a written place takes at place i, and the least number of written places.
-pub fn base(e: u64, i: usize) -> u64
-    requires { ⌜ (3 ≤ e) × (e ≤ 15) ⌝ }
-    ensures { λ r. ⌜ (r ≡ Field.base e i) × (1 < r) × (r ≤ e) ⌝ }
+// What holds of generation 1, or of those behind it.
+fn first_or_later(i: usize, first: u64, later: u64) -> u64
+    ensures { λ r. ⌜ (i ≡ 0 → r ≡ first) × (i ≢ 0 → r ≡ later) ⌝ }
 {
-    if i == 0 { e } else { e - 1 }
+    if i == 0 { first } else { later }
 }
 
-pub fn fewest(f: Frame, i: usize) -> u64
-    ensures { λ r. ⌜ ((v : List ℕ) → r ≡ Field.fewest (firstOf (framed f v)) i) × (r ≤ 1) ⌝ }
+// How the generation at place i deals; `next` is the count of the one after it, 0 for the last.
+fn deal_by(e: u64, first: u64, i: usize, next: u64) -> Dealing
+    requires { ⌜ 0 < e ⌝ }
+    ensures { λ r. ⌜ r ≡ dealt e first i next ⌝ }
 {
-    if i == 0 { layout::first(f) } else { 1 }
+    if next == 0 {
+        return Dealing::Digits { base: e };
+    }
+    Dealing::Patterns {
+        values: first_or_later(i, e, e - 1),
+        fewest: first_or_later(i, first, 1),
+    }
+}
+
+// The generation at place i.
+pub fn generation_at(h: &[u64; 16], f: Outline, v: &[u64; 16], i: usize) -> Generation
+    requires { ⌜ (Granted (outlined f (now v)) (now h)) × (i < f .t) ⌝ }
+    ensures { λ r. ⌜ r ≡ generationAt (codeOf (outlined f (now (v .entry)))) i ⌝ }
+{
+    let places = h[i];
+    let next = next_count(h, i);
+    let dealing = deal_by(shapes::all_ones(f.m), shapes::first(f), i, next);
+    let range = shapes::range_at(f, v, i);
+    Generation {
+        places,
+        next,
+        dealing,
+        range,
+    }
 }
 
 // The number of a pattern in the marked groups.
@@ -67,8 +98,8 @@ fn tell_pattern(
         ⌜ (Pickable m n (now words) (now marks)) × (places ≡ length xs) × (written xs ≤ patternMost) × (1 < b) × (b ≤ 15) × (fewest ≤ 1) ⌝ }
     ensures { λ r. ⌜ r ≡ sat (number b fewest (frontAt m n (now (marks .entry)) (now (words .entry)))) ⌝ }
 {
-    let mut labels = [0u8; 64];
-    let mut values = [0u8; 64];
+    let mut labels = [0u8; PATTERN_MOST];
+    let mut values = [0u8; PATTERN_MOST];
     let k = words::gather(words, marks, n, m, places, &mut labels, &mut values);
     dealing::number(&labels, &values, k, places, b, fewest)
 }
@@ -78,7 +109,7 @@ fn tell_digits(words: &[u64; 16], marks: &[u64; 16], n: usize, m: usize, e: u64)
     requires { ⌜ (Pickable m n (now words) (now marks)) × (length (frontAt m n (now marks) (now words)) ≤ patternMost) × (0 < e) × (e ≤ 15) ⌝ }
     ensures { λ r. ⌜ r ≡ sat (plain e (frontAt m n (now (marks .entry)) (now (words .entry)))) ⌝ }
 {
-    let mut values = [0u8; 64];
+    let mut values = [0u8; PATTERN_MOST];
     let k = words::pick(words, marks, n, m, &mut values);
     dealing::plain(&values, k, e)
 }
@@ -89,58 +120,18 @@ fn less_one(x: u64) -> u64
     if x == 0 { 0 } else { x - 1 }
 }
 
-// The number that the places of a generation tell; `next` is the count of the generation after it, 0 for the last.
-fn tell(
-    words: &[u64; 16],
-    marks: &[u64; 16],
-    n: usize,
-    m: usize,
-    places: u64,
-    e: u64,
-    b: u64,
-    fewest: u64,
-    next: u64,
-) -> u64
-    requires { ⌜ (Pickable m n (now words) (now marks)) × (places ≡ length (frontAt m n (now marks) (now words))) ⌝ }
-    requires { ⌜ (0 < e) × (e ≤ 15) × (1 < b) × (b ≤ 15) × (fewest ≤ 1) ⌝ }
-    requires { ⌜ (places ≤ next + patternMost) × (next ≤ Field.zeros (frontAt m n (now marks) (now words))) ⌝ }
-    ensures { λ r. ⌜ Close (Field.told e b fewest next (frontAt m n (now (marks .entry)) (now (words .entry)))) r ⌝ }
+// The number that the places of a generation tell, which are the marked groups.
+pub fn tell(words: &[u64; 16], marks: &[u64; 16], n: usize, m: usize, g: Generation) -> u64
+    requires { let xs = frontAt m n (now marks) (now words) in
+        ⌜ (Pickable m n (now words) (now marks)) × (Tellable m g xs) ⌝ }
+    ensures { λ r. ⌜ Close (told (g .dealing) (frontAt m n (now (marks .entry)) (now (words .entry)))) r ⌝ }
 {
-    if next == 0 {
-        return less_one(tell_digits(words, marks, n, m, e));
+    let places = g.places;
+    let dealing = g.dealing;
+    match dealing {
+        Dealing::Patterns { values, fewest } => {
+            tell_pattern(words, marks, n, m, places, values, fewest)
+        }
+        Dealing::Digits { base } => less_one(tell_digits(words, marks, n, m, base)),
     }
-    tell_pattern(words, marks, n, m, places, b, fewest)
-}
-
-// The number that the marked groups tell at place i, which are its places.
-pub fn number_at(
-    h: &[u64; 16],
-    m: u64,
-    fewest: u64,
-    words: &[u64; 16],
-    marks: &[u64; 16],
-    n: usize,
-    i: usize,
-) -> u64
-    requires { ⌜ (Pickable m n (now words) (now marks)) × (2 ≤ m) × (m ≤ 4) × (fewest ≤ 1) × (getD (now h) 16 0 ≡ 0) × (i < 16) ⌝ }
-    requires { ⌜ (getD (now h) i 0 ≡ length (frontAt m n (now marks) (now words))) × (getD (now h) i 0 ≤ getD (now h) (suc i) 0 + patternMost) ⌝ }
-    requires { ⌜ getD (now h) (suc i) 0 ≤ Field.zeros (frontAt m n (now marks) (now words)) ⌝ }
-    ensures { λ r.
-        let e = 2 ^ m - 1 in
-        let places = frontAt m n (now (marks .entry)) (now (words .entry)) in
-        ⌜ Close (Field.told e (Field.base e i) fewest (getD (now (h .entry)) (suc i) 0) places) r ⌝ }
-{
-    let e = layout::all_ones(m);
-    let next = next_count(h, i);
-    tell(
-        words,
-        marks,
-        n,
-        m as usize,
-        h[i],
-        e,
-        base(e, i),
-        fewest,
-        next,
-    )
 }

@@ -10,8 +10,9 @@ use lib.ListN.{length, getD, take, drop, replicate, length-take, length-append, 
 use lib.Seq.{take-at, drop-at}
 use lib.Dec.{leb}
 use borrow.Author.Tests.{le-leb, lt-leb, eq-eqb, ne-eqb}
-use Rattle.code.specs.declared.Frame.{Frame}
-use Rattle.code.specs.Shape.{shaped, rangesDue, framed}
+use Rattle.shapes.specs.declared.Outline.{Outline}
+use Rattle.code.specs.Shape.{shaped, rangesDue}
+use Rattle.shapes.specs.Outlines.{outlined}
 use Rattle.code.specs.Calls.{filled}
 use Rattle.code.specs.Numerals as Numerals
 use Rattle.code.specs.Numerals.{readNumbers}
@@ -118,8 +119,8 @@ filled-of n v l h e =
 
 -- The shape of a layout that was read into zeros.
 module _ (bytes : List ℕ) (place : ℕ) (v : List ℕ) where
-  pub shape-whole : (f : Frame) (end : ℕ) {r : LayoutThere} → r ≡ Whole f end → LayoutRead bytes place (replicate 16 0) v r →
-      framed f v ≡ listedShape (layoutAt bytes place)
+  pub shape-whole : (f : Outline) (end : ℕ) {r : LayoutThere} → r ≡ Whole f end → LayoutRead bytes place (replicate 16 0) v r →
+      outlined f v ≡ listedShape (layoutAt bytes place)
   unfolding listedShape listedBy layoutAt
   shape-whole f end {r} e read =
       let told = ap (thereOf v) (sym e) ∙ read .reads in

@@ -11,7 +11,7 @@ use borrow.Author.Tests.{lt-ltb, le-ltb}
 use Rattle.code.specs.Numerals as Numerals
 use Rattle.code.specs.Numerals.{readNumbers}
 use Rattle.code.specs.LayoutList.{Listed, listedBy, Layouts, brokenList, layouts, ledLayouts, readLayout, readLayouts, countedLayouts, layoutList}
-use Rattle.code.specs.declared.Frame.{Frame}
+use Rattle.shapes.specs.declared.Outline.{Outline}
 use Rattle.code.proofs.LayoutLists.{layouts-one, layouts-cut, layout-further}
 use Rattle.numerals.specs.Number.{numbersOf}
 use Rattle.numerals.specs.declared.Numbers.{Numbers}
@@ -66,7 +66,7 @@ module _ {count : ℕ} {bytes : List ℕ} {at : ℕ} {places : List ℕ} {next i
         let none : readLayout bytes next ≡ Numerals.cut = sym (ap (thereOf v) (sym e) ∙ read .reads) in
         rw (h .reads, left l, layouts-cut (count - suc i) bytes next none, led-broken)
 
-    module _ (f : Frame) {end : ℕ} (e : r ≡ Whole f end) where
+    module _ (f : Outline) {end : ℕ} (e : r ≡ Whole f end) where
       abbrev xs : List ℕ
       xs = f .form ∷ f .m ∷ f .t ∷ take (f .count) v
 

@@ -1,7 +1,7 @@
 // Document 02, §3, "Layouts said once": the layout list of a new dump, kept by the places of its layouts.
-use code::Frame;
 use code::Shape;
 use numerals::Numbers;
+use shapes::Outline;
 ghost use mathlib.Core.Path.{_≡_};
 ghost use Prim.Native.Nat.{_≤_};
 ghost use lib.ListN.{length};
@@ -21,7 +21,7 @@ pub enum LayoutList {
 
 // The layout at a place but for its ranges, and the place behind it.
 enum LayoutThere {
-    Whole { frame: Frame, end: usize },
+    Whole { outline: Outline, end: usize },
     Broken,
 }
 
@@ -66,13 +66,16 @@ fn read_layout(dump: &[u8], at: usize, v: &mut [u64]) -> LayoutThere
     let Numbers::Read { end: behind } = read_ranges(dump, end, v, count) else {
         return LayoutThere::Broken;
     };
-    let frame = Frame {
+    let outline = Outline {
         form: numbers[0],
         m: numbers[1],
         t: numbers[2],
         count: count as u64,
     };
-    LayoutThere::Whole { frame, end: behind }
+    LayoutThere::Whole {
+        outline,
+        end: behind,
+    }
 }
 
 // The shape of the layout that stands at a place, of zeros where none does.
@@ -81,11 +84,11 @@ pub fn shape_at(dump: &[u8], place: usize) -> Shape
 {
     let mut v = [0u64; 16];
     match read_layout(dump, place, &mut v) {
-        LayoutThere::Whole { frame, end: _ } => Shape {
-            form: frame.form,
-            m: frame.m,
-            t: frame.t,
-            count: frame.count,
+        LayoutThere::Whole { outline, end: _ } => Shape {
+            form: outline.form,
+            m: outline.m,
+            t: outline.t,
+            count: outline.count,
             v,
         },
         LayoutThere::Broken => no_layout(),
@@ -115,7 +118,7 @@ fn read_places(dump: &[u8], at: usize, count: usize, places: &mut [u16; LAYOUTS_
     let mut v = [0u64; 16];
     while i < count {
         match read_layout(dump, start, &mut v) {
-            LayoutThere::Whole { frame: _, end } => {
+            LayoutThere::Whole { outline: _, end } => {
                 places[i] = start as u16;
                 start = end;
                 i += 1;

@@ -3,7 +3,7 @@ ghost use mathlib.Core.Path.{_≡_};
 ghost use mathlib.Core.List.{[], _∷_, _++_};
 ghost use Prim.Native.Nat.{ℕ, _+_, _<_, _≤_};
 ghost use lib.ListN.{length};
-ghost use Rattle.code.specs.Dump.{decimal, recordLine, lastLine, stopLines};
+ghost use Rattle.code.specs.Listing.{decimal, recordLine, lastLine, stopLines};
 ghost use Rattle.text.specs.Within.{PutWithin, readingLine, refusalLine, closingLine, stoppingLines, oversizeLine};
 
 fn decimal_length(x: u64) -> usize

@@ -32,21 +32,13 @@ pub struct Walked {
 fn halt_walk(halt: Halt, next: u64, rows: u64) -> Walked
     ensures { λ r. ⌜ walkedOf r ≡ haltedBy next rows halt ⌝ }
 {
-    match halt {
-        Halt::Malformed { offset } => Walked {
-            refusal: 7,
-            offset: offset as u64,
-            rows,
-            next,
-            ended: 0,
-        },
-        Halt::Oversize => Walked {
-            refusal: 8,
-            offset: 0,
-            rows,
-            next,
-            ended: 0,
-        },
+    let told = dump::flat_halt(halt);
+    Walked {
+        refusal: told.refusal,
+        offset: told.offset,
+        rows,
+        next,
+        ended: 0,
     }
 }
 

@@ -7,7 +7,7 @@ use native.Mathlib.Nat.{sub-self}
 use lib.Count.{ones, onesIn}
 use lib.ListN.{length, getD, take, drop, length-take, length-drop}
 use lib.Seq.{take-suc, length-take-le, getD-drop, getD-take}
-use Rattle.code.specs.Chosen.{patternMost}
+use Rattle.code.proofs.Chosen.{patternMost}
 use Rattle.code.specs.Field.{zeros}
 use Rattle.code.specs.Lists.{Upto}
 use Rattle.code.proofs.Cells.{upto-at, upto-all}

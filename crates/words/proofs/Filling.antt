@@ -7,7 +7,7 @@ use native.Mathlib.Nat.{zero-add}
 use native.Mathlib.Numerals.{add-one}
 use lib.ListN.{length, getD, set, take, length-append, length-set}
 use lib.Seq.{take-suc-set}
-use Rattle.code.specs.Chosen.{patternMost}
+use Rattle.code.proofs.Chosen.{patternMost}
 use Rattle.words.specs.Words.{wordGroups, groupsAt, frontAt}
 use Rattle.words.specs.Marks.{Marks, picked, topOf, Added, Listed, Pickable}
 use Rattle.words.proofs.Sizes.{word-fits}

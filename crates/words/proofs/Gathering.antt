@@ -10,7 +10,7 @@ use lib.Count.{ones}
 use lib.Pow.{pow-pos, pow-mono, low, mod-mod-pow}
 use lib.ListN.{length, getD, set, length-append}
 use borrow.Author.Tests.{ne-eqb}
-use Rattle.code.specs.Chosen.{patternMost, labels, values}
+use Rattle.code.proofs.Chosen.{patternMost, labels, values}
 use Rattle.code.specs.Deal.{written}
 use Rattle.code.specs.Field.{zeros}
 use Rattle.code.proofs.Chosen.{below-up, labels-many, labels-below}

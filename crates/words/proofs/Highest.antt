@@ -7,12 +7,9 @@ use native.Mathlib.Decide.{ℕ-discrete}
 use native.Mathlib.Nat.{one-mul, zero-mul, zero-add, pow-suc, mod-lt, lt-of-lt-of-le, lt-of-le-of-lt}
 use lib.Bits.{bitAnd, bitOr, bitXor, and-mask, or-step, or-zero-r, xor-block, xor-self, xor-zero-r}
 use lib.Count.{ones, onesIn, leadingZeros, leading-top, leading-unique, ones-cat}
-use lib.Pow.{pow-pos, pow-mono, shl-exact, low}
+use lib.Pow.{pow-pos, pow-mono, low}
+use Rattle.binary.proofs.Shifts.{power-shifted}
 use Rattle.words.specs.Marks.{topOf, stripped}
-
--- a power, as code has it
-pub power-shifted : (n : ℕ) → n < 64 → 1 * 2 ^ n % 2 ^ 64 ≡ 2 ^ n
-power-shifted n h = shl-exact {a = 1} 1 n 64 (omega arith) (omega arith) ∙ one-mul (2 ^ n)
 
 -- the highest one of a word, and the word without it
 pub top-facts : (x : ℕ) → 0 < x → x < 2 ^ 64 → (leadingZeros 64 x ≤ 63) × (2 ^ topOf x ≤ x) × (x < 2 ^ suc (topOf x))

@@ -4,7 +4,7 @@ use mathlib.Core.List.{List}
 use Prim.Native.Nat.{ℕ, _≤_}
 use native.Mathlib.Omega.{arith}
 use lib.ListN.{length, length-take}
-use Rattle.code.specs.Chosen.{Chosen}
+use Rattle.code.proofs.Chosen.{Chosen}
 use Rattle.code.proofs.Chosen.{scattered-back}
 use Rattle.words.specs.Words.{frontGroups}
 use Rattle.words.specs.declared.Seen.{Seen}

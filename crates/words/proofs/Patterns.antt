@@ -12,7 +12,7 @@ use lib.ListN.{length, getD, take, drop, replicate, length-take, length-append, 
 use lib.Seq.{take-at, drop-at, take-all, drop-drop, set-getD}
 use Rattle.code.specs.Field.{zeros, lay}
 use Rattle.code.specs.Lists.{Upto}
-use Rattle.code.specs.Chosen.{labels, values, scattered, Chosen}
+use Rattle.code.proofs.Chosen.{labels, values, scattered, Chosen}
 use Rattle.code.proofs.Chosen.{scattered-back}
 use Rattle.words.specs.Marks.{groupsIn, topOf, stripped, Blanks, WordLaid, Remaining, restOf, Scattered, blanksTo, ZeroMarked, Layered}
 use Rattle.words.proofs.Front.{drop-front}

@@ -7,7 +7,7 @@ use lib.Bits.{bitAnd, bitOr}
 use lib.Count.{ones, leadingZeros}
 use lib.Dec.{eqb}
 use lib.ListN.{length, getD, take, drop}
-use Rattle.code.specs.Chosen.{Chosen, patternMost, labels, values, scattered}
+use Rattle.code.proofs.Chosen.{Chosen, patternMost, labels, values, scattered}
 use Rattle.code.specs.Field.{zeros, unerased, erase, lay}
 use Rattle.code.specs.Lists.{Below, Upto}
 use Rattle.words.specs.Words.{groupsOf, wordBytes, wordGroups, frontGroups, frontAt, Tidy}

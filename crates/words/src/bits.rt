@@ -52,25 +52,11 @@ pub fn open_marks(m: usize, low: u64, w: u64) -> u64
     low - erased(m, low, w)
 }
 
-pub fn ones(x: u64) -> u64
-    ensures { λ r. ⌜ (r ≡ Count.ones x) × (r ≤ 64) ⌝ }
-{
-    u64::count_ones(x) as u64
-}
-
 // The bits of a word.
 pub fn word_bits(m: usize) -> usize
     ensures { λ r. ⌜ r ≡ 8 * Words.wordBytes m ⌝ }
 {
     if m == 3 { 48 } else { 64 }
-}
-
-// n ones.
-pub fn low_ones(n: usize) -> u64
-    requires { ⌜ n < 64 ⌝ }
-    ensures { λ r. ⌜ r ≡ 2 ^ n - 1 ⌝ }
-{
-    (1 << n) - 1
 }
 
 // The group whose mark stands at place p.
@@ -79,13 +65,6 @@ pub fn group_at(w: u64, p: u32, m: usize, e: u64) -> u64
     ensures { λ r. ⌜ (r ≡ w / 2 ^ p % 2 ^ m) × (r < 16) ⌝ }
 {
     (w >> p) & e
-}
-
-// A byte as a number of 64 bits.
-pub fn wide(x: u8) -> u64
-    ensures { λ r. ⌜ (r ≡ x) × (r < 256) ⌝ }
-{
-    x as u64
 }
 
 // The word with x in its zero group whose mark stands at place p.

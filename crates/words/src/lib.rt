@@ -1,33 +1,31 @@
 // Groups of m wits in words of 64 bits.
 mod bits;
 
+use binary::low_ones;
+use binary::ones;
+use binary::wide;
 use bits::group_at;
 use bits::low_bits;
-use bits::low_ones;
 use bits::nonzero;
-use bits::ones;
 use bits::open_marks;
 use bits::put;
 use bits::skip;
 use bits::strip;
 use bits::top;
 use bits::top_odd;
-use bits::wide;
 use bits::word_bits;
 use bits::zero_marks;
+use code::PATTERN_MOST;
 ghost use mathlib.Core.Path.{_≡_};
 ghost use Prim.Native.Nat.{_+_, _-_, _^_, _≤_, _<_};
 ghost use lib.ListN.{length, take, drop};
 ghost use lib.Count as Count;
-ghost use Rattle.code.specs.Chosen.{patternMost};
-ghost use Rattle.code.specs.Chosen as Chosen;
+ghost use Rattle.code.proofs.Chosen.{patternMost};
+ghost use Rattle.code.proofs.Chosen as Chosen;
 ghost use Rattle.code.specs.Deal as Deal;
 ghost use Rattle.code.specs.Lists as Lists;
 ghost use Rattle.words.specs.Words as Words;
 ghost use Rattle.words.specs.Marks as Marks;
-
-// What the arrays of labels and values have room for.
-pub const PATTERN_MOST: usize = 64;
 
 pub struct Seen {
     pub zeros: u64,

@@ -9,11 +9,11 @@ use lib.ListN.{length, getD, take, length-replicate, getD-replicate}
 use lib.Dec.{leb}
 use borrow.Author.Tests.{ne-eqb}
 use Rattle.code.specs.declared.Shape.{Shape}
-use Rattle.code.specs.Shape.{firstOf, rangesOf, orderOf, countsOf, widthOf}
+use Rattle.code.specs.Shape.{firstOf, rangesOf, orderOf, countsOf, widthOf, codeOf}
 use Rattle.code.specs.Lists.{Below}
 use Rattle.code.specs.Cells.{wit, size, ones}
 use Rattle.code.specs.Run.{run, total, opening}
-use Rattle.code.specs.Calls.{answer, passes, layoutRefusal, fieldRead, left, readReply, writeRefusal, writeReply, turnedBy, writeLeaves}
+use Rattle.code.specs.Calls.{answer, passes, layoutRefusal, fieldRead, left, readReply, writeRefusal, writeReply, turnedBy, writeLeaves, generationIn}
 use Rattle.code.proofs.Wits.{Bytes}
 use Rattle.code.proofs.Bytes.{tried-is}
 use Rattle.code.proofs.Run.{run-more, total-more}
@@ -79,7 +79,7 @@ module _ (s : Shape) (x : ℕ) (bs : List ℕ) (B : Bytes bs) (r : Writing) (aft
   pub reads-back : (i n : ℕ) (a : Reading) → r ≡ Written i n → readingOf a ≡ readReply s after → a ≡ Read i x (left (s .t) (fieldRead s after))
   reads-back i n a made p =
       let q : 0 ∷ i ∷ n ∷ [] ≡ writeReply s x bs = rw made at (promise .0) in
-      let at : getD (writeReply s x bs) 1 0 ≡ i = rw (← q) in
+      let at : generationIn (writeReply s x bs) ≡ i = rw (← q) in
       let w = Code.reads-back s (granted-first s x i n bs q) x bs B (made-with-none s x i n bs q) in
       same-reading a (Read i x (left (s .t) (fieldRead s after))) (p ∙ rw (at, ← promise .1) at w)
 
@@ -146,7 +146,7 @@ module _ (s : Shape) (ok : layoutRefusal s 256 ≡ []) (xs : List ℕ) (cells : 
       rw (C .blank) (λ i b. omega (arith, getD-replicate {A = ℕ} n i 0 0 (rw (length-replicate {A = ℕ} n 0) at b)))
   are-bytes (suc j) l =
       rw (C .each j (omega arith) .1, leaves-is s ok (getD xs j 0) (cells j))
-      (tried-is (orderOf s) (s .m) (firstOf s) (countsOf s) (rangesOf s) (is-layout s ok) (omega (arith, bounded s ok .m-low)) (getD xs j 0) (cells j)
+      (tried-is (codeOf s) (is-layout s ok) (omega (arith, bounded s ok .m-low)) (getD xs j 0) (cells j)
       (are-bytes j (omega arith)) .0)
 
   -- After each accepted call reading gives the generation answered and the number just written.

@@ -11,23 +11,28 @@ use lib.Arith.{lt-of-le-ne}
 use lib.ListN.{length, getD}
 use borrow.Author.Tests.{not-true, eq-eqb, ne-eqb}
 use Rattle.code.specs.declared.Shape.{Shape}
-use Rattle.code.specs.Shape.{firstOf, rangesOf, orderOf, countsOf, widthOf}
+use Rattle.code.specs.Shape.{firstOf, rangesOf, orderOf, countsOf, widthOf, codeOf}
 use Rattle.code.specs.Cells.{sound}
+use Rattle.code.specs.declared.Generation.{Generation}
+use Rattle.code.specs.Code.{generationAt}
 use Rattle.code.specs.Field as Field
 use Rattle.code.specs.Calls.{readCells, fieldRead, miscounts, exceeds, spent, taker, overRange, writeReply, writeLeaves, filled, layoutFields, layoutReply}
 use Rattle.code.proofs.Tests.{clash}
 use Rattle.code.proofs.Groups.{blank-zeros}
 use Rattle.code.proofs.Field as Code
 use Rattle.code.proofs.WriteCall.{Refuses, write-no-layout, write-unsound, write-large, write-miscounted, write-beyond, write-spent, write-late, write-made, first-write, next-write, read-most}
-use Rattle.cells.specs.Cells.{Stored}
+use Rattle.cells.specs.Cells.{Storable, Stored}
+use Rattle.cells.proofs.Sizes.{storable}
 use Rattle.layout.specs.Plan.{Granted}
 use Rattle.layout.proofs.Planning.{plan-refused}
 use Rattle.writing.specs.declared.Aim.the-variants.{At, Refused}
-use Rattle.reading.specs.Answers.{refusalOf, readIn, SoundCells, fieldGroups, Looked}
+use Rattle.reading.specs.Answers.{refusalOf, readIn, SoundCells, heldGroups, fieldGroups, Looked}
 use Rattle.reading.specs.declared.Refusal.{Refusal}
 use Rattle.reading.specs.declared.Refusal.the-variants.{Plain, Miscounted, Beyond}
-use Rattle.writing.specs.Answers.{aimAt, afterIn, Ready}
-use Rattle.reading.proofs.Judging.{sound-width}
+use Rattle.writing.specs.declared.Held.{Held}
+use Rattle.writing.specs.Answers.{aimAt, afterIn, laidBy, witsOf, Ready, Takes}
+use Rattle.reading.proofs.Judging.{sound-width, loadable, width}
+use Rattle.writing.proofs.Laying.{takes, laid-after}
 
 -- a reply and the cells at exit, as a call's promise has them
 abbrev pub Answers : Shape → ℕ → List ℕ → List ℕ → List ℕ → Type 0
@@ -50,7 +55,7 @@ pub record Aimed (s : Shape) (r : Field.Reading) (i : ℕ) : Type 0 where
 -- x is written there on groups gs, z of them being zero
 pub record Place (s : Shape) (x : ℕ) (gs : List ℕ) (i z : ℕ) : Type 0 where
   pub ready : Ready s i z gs
-  pub made : Field.write (2 ^ s .m - 1) (firstOf s) (countsOf s) (rangesOf s) x gs ≡ Field.wrote (suc i) (afterIn s i x gs)
+  pub made : Field.write (codeOf s) x gs ≡ Field.wrote (suc i) (afterIn s i x gs)
 
 module _ {s : Shape} {h : List ℕ} (G : Granted s h) (gs : List ℕ) (i : ℕ) where
   aimed : (r : Field.Reading) → readIn s gs ≡ r → At i ≡ aimAt (s .t) r → Aimed s r i
@@ -84,7 +89,7 @@ module _ {s : Shape} {h : List ℕ} (G : Granted s h) (gs : List ℕ) (i : ℕ) 
     place (Field.reads j y) reading A =
         let same : i ≡ j = sym (A .takes) in
         let w = next-write s (G .ok) x j y gs (rw same at b) reading (rw same at (A .low)) in
-        let some : j ≢ 0 = λ n. absurd (omega (arith, n, Code.read-past (2 ^ s .m - 1) (firstOf s) (countsOf s) (rangesOf s) gs j y reading)) in
+        let some : j ≢ 0 = λ n. absurd (omega (arith, n, Code.read-past (codeOf s) gs j y reading)) in
         rw same (record { ready = record { none = none; blank = λ n. absurd (some n); enough = enough j some (w .1) }; made = w .0 })
     place (Field.miscounted j u) reading A = absurd (true≢false (A .counted))
     place (Field.beyond j) reading A = absurd (true≢false (A .ranged))
@@ -93,9 +98,9 @@ module _ {s : Shape} {h : List ℕ} (G : Granted s h) (x : ℕ) (bs : List ℕ) 
   pub writes-3 : (o : ℕ) (r : Bool) → o ≡ orderOf s → r ≡ sound o (s .m) (getD h 0 0) bs → not r ≡ true → Answers s x bs (3 ∷ []) bs
   writes-3 o r q k f = refuses s x bs (3 ∷ []) (write-unsound s x bs (G .ok) (sym (sound-width G bs o q) ∙ sym k ∙ not-true r f))
 
-  module _ (f : SoundCells s bs) where
+  module _ (sure : SoundCells s bs) where
     pub writes-6 : overRange s x ≡ true → Answers s x bs (6 ∷ []) bs
-    writes-6 l = refuses s x bs (6 ∷ []) (write-large s x bs (G .ok) f l)
+    writes-6 l = refuses s x bs (6 ∷ []) (write-large s x bs (G .ok) sure l)
 
     module _ (l : overRange s x ≡ false) {words : List ℕ} {n z : ℕ} {r : Field.Reading} (K : Looked s bs words n z r) where
       field-reads : fieldRead s bs ≡ r
@@ -114,27 +119,37 @@ module _ {s : Shape} {h : List ℕ} (G : Granted s h) (x : ℕ) (bs : List ℕ) 
             | yes t ↦
                 let q′ = rw (eq-eqb i (s .t) t) at q in
                 let five : k ≡ Plain 5 = cc in
-                rw five (refuses s x bs (5 ∷ []) (write-spent s x bs (G .ok) f l i y e t))
+                rw five (refuses s x bs (5 ∷ []) (write-spent s x bs (G .ok) sure l i y e t))
             | no d ↦ let q′ = rw (ne-eqb i (s .t) d) at q in clash (cc)
           ]
-          go (Field.miscounted i u) e q = let a : k ≡ Miscounted i u = cc in rw a (refuses s x bs (15 ∷ i ∷ u ∷ []) (write-miscounted s x bs (G .ok) f l i u e))
-          go (Field.beyond i) e q = let a : k ≡ Beyond i = cc in rw a (refuses s x bs (16 ∷ i ∷ []) (write-beyond s x bs (G .ok) f l i e))
+          go (Field.miscounted i u) e q = let a : k ≡ Miscounted i u = cc in rw a (refuses s x bs (15 ∷ i ∷ u ∷ []) (write-miscounted s x bs (G .ok) sure l i u e))
+          go (Field.beyond i) e q = let a : k ≡ Beyond i = cc in rw a (refuses s x bs (16 ∷ i ∷ []) (write-beyond s x bs (G .ok) sure l i e))
 
       module _ {i : ℕ} (A : Aimed s r i) where
         pub writes-late : getD (rangesOf s) i 0 ≤ x → Answers s x bs (6 ∷ []) bs
         writes-late g =
             refuses s x bs (6 ∷ [])
-            (write-late s x bs (G .ok) f l r field-reads (A .counted) (A .ranged) (A .unspent) (rw (A .takes) (A .low)) (rw (A .takes) g))
+            (write-late s x bs (G .ok) sure l r field-reads (A .counted) (A .ranged) (A .unspent) (rw (A .takes) (A .low)) (rw (A .takes) g))
 
         module _ (b : x < getD (rangesOf s) i 0) where
           pub placed : Place s x (fieldGroups s n words) i z
           placed = place G (fieldGroups s n words) i x b z (K .none) (K .holds .many) r (sym (K .read)) A
 
-          pub writes-as : (turned : ℕ) (bs′ : List ℕ) → Stored (orderOf s) (s .m) (afterIn s i x (fieldGroups s n words)) bs bs′ turned →
-              Answers s x bs (0 ∷ (i + 1) ∷ turned ∷ []) bs′
-          writes-as turned bs′ W =
-              let after = afterIn s i x (fieldGroups s n words) in
-              let taken : x < getD (rangesOf s) (taker r) 0 = rw (A .takes) b in
-              let w =
-              write-made s x bs (G .ok) f l r field-reads (A .counted) (A .ranged) (A .unspent) (suc i) after taken (rw (← K .same) (placed .made)) in
-              (rw (add-one i, W .count, W .bytes) (sym (w .0)), W .bytes ∙ sym (w .1))
+          module _ {g : Generation} (q : g ≡ generationAt (codeOf s) i) where
+            pub takes-it : {f : Held} → witsOf f ≡ s .m → f .groups ≡ getD h 0 0 → f .n ≡ n → f .zeros ≡ z → Takes f g x words
+            takes-it m w k y =
+                takes G i x q m (w ∙ width G (K .holds)) (rw k (K .holds)) (rw (k, y) (placed .ready)) (A .low) b
+
+            pub storable-as : Storable (s .m) (getD h 0 0) bs
+            storable-as = storable (loadable G bs sure (orderOf s) refl)
+
+            pub writes-as : (turned : ℕ) (bs′ : List ℕ) → Stored (orderOf s) (s .m) (laidBy (s .m) g x (heldGroups (s .m) (getD h 0 0) n words)) bs bs′ turned →
+                Answers s x bs (0 ∷ (i + 1) ∷ turned ∷ []) bs′
+            writes-as turned bs′ W′ =
+                let gs = fieldGroups s n words in
+                let W : Stored (orderOf s) (s .m) (afterIn s i x gs) bs bs′ turned =
+                rw (width G (K .holds), laid-after G i x q (placed .ready) (K .holds .many)) at W′ in
+                let taken : x < getD (rangesOf s) (taker r) 0 = rw (A .takes) b in
+                let w = write-made s x bs (G .ok) sure l r field-reads (A .counted) (A .ranged) (A .unspent) (suc i) (afterIn s i x gs) taken
+                    (rw (← K .same) (placed .made)) in
+                (rw (add-one i, W .count, W .bytes) (sym (w .0)), W .bytes ∙ sym (w .1))

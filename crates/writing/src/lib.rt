@@ -1,26 +1,32 @@
 // Writing one field: document 01, "Writing", with the refusals in the table's order.
-use code::Frame;
+use code::Dealing;
+use code::Generation;
+use code::PATTERN_MOST;
 use code::Shape;
+use code::refusals;
 use reading::Found;
 use reading::Refusal;
+use shapes::Outline;
 ghost use mathlib.Core.Path.{_≡_};
 ghost use mathlib.Core.Bool.{false};
-ghost use Prim.Native.Nat.{suc, _+_, _-_, _^_, _<_, _≤_};
+ghost use mathlib.Core.List.{List};
+ghost use Prim.Native.Nat.{ℕ, suc, _+_, _-_, _^_, _<_, _≤_};
 ghost use lib.ListN.{length, getD};
 ghost use Rattle.code.specs.Count.{fewer};
-ghost use Rattle.code.specs.Layout.{room};
-ghost use Rattle.code.specs.Shape.{framed, rangesOf, orderOf};
+ghost use Rattle.code.specs.Code.{pattern};
+ghost use Rattle.code.specs.Shape.{orderOf};
 ghost use Rattle.code.specs.Deal.{deal, plainly};
-ghost use Rattle.code.specs.Chosen.{patternMost};
 ghost use Rattle.code.specs.Field as Field;
 ghost use Rattle.code.specs.Calls.{overRange, writeFields, writeReply, writeLeaves};
+ghost use Rattle.code.proofs.Chosen.{patternMost};
+ghost use Rattle.shapes.specs.Outlines.{outlined};
 ghost use Rattle.counting.specs.Cap.{cap};
 ghost use Rattle.words.specs.Words.{frontGroups};
 ghost use Rattle.words.specs.Marks.{ZeroMarked, Layered};
-ghost use Rattle.cells.specs.Cells.{Stored};
+ghost use Rattle.cells.specs.Cells.{Storable, Stored};
 ghost use Rattle.layout.specs.Plan.{Granted};
-ghost use Rattle.reading.specs.Answers.{foundOf, fieldGroups, SoundCells, Holds};
-ghost use Rattle.writing.specs.Answers.{writingOf, writeFieldsOf, aimAt, afterIn, Ready, Carries};
+ghost use Rattle.reading.specs.Answers.{foundOf, SoundCells};
+ghost use Rattle.writing.specs.Answers.{writingOf, writeFieldsOf, aimAt, laidBy, witsOf, groupsHeld, Carries, Layable, Takes};
 
 pub enum Writing {
     Written { generation: u64, turned: u64 },
@@ -52,7 +58,7 @@ fn take_aim(found: Found, t: u64) -> Aim
             number: _,
         } => {
             if generation == t {
-                return Aim::Refused(Refusal::Plain(5));
+                return Aim::Refused(Refusal::Plain(refusals::SPENT));
             }
             Aim::At(generation as usize)
         }
@@ -81,7 +87,7 @@ fn lay_plain(
     requires { ⌜ (0 < e) × (e ≤ 15) × (e ≡ 2 ^ m - 1) × (x < e ^ places) ⌝ }
     ensures { λ _. ⌜ Layered m n (plainly e places x) (now (words .entry)) (now (words .exit)) ⌝ }
 {
-    let mut values = [0u8; 64];
+    let mut values = [0u8; PATTERN_MOST];
     dealing::plainly(&mut values, places as usize, e, x);
     words::lay_digits(words, marks, n, m, &values);
 }
@@ -101,102 +107,71 @@ fn lay_dealt(
     requires { ⌜ (0 < b) × (b ≤ 15) × (b ≤ 2 ^ m - 1) × (fewest ≤ 1) × (x < cap) × (x < fewer b places fewest (suc places)) ⌝ }
     ensures { λ _. ⌜ Layered m n (deal b fewest places x) (now (words .entry)) (now (words .exit)) ⌝ }
 {
-    let mut labels = [0u8; 64];
-    let mut values = [0u8; 64];
+    let mut labels = [0u8; PATTERN_MOST];
+    let mut values = [0u8; PATTERN_MOST];
     let k = dealing::deal(&mut labels, &mut values, places, b, fewest, x);
     words::lay(words, marks, n, m, places, &labels, &values, k);
 }
 
-// Lays the pattern of x into the zero groups, the places of a generation; `next` is the count of the one after it, 0 for the last.
-fn lay_number(
-    words: &mut [u64; 16],
-    marks: &[u64; 16],
-    n: usize,
-    m: usize,
-    places: u64,
-    e: u64,
-    b: u64,
-    fewest: u64,
-    next: u64,
-    x: u64,
-)
-    requires { ⌜ (ZeroMarked m n (now words) (now marks)) × (places ≡ Field.zeros (frontGroups m n (now words))) × (places ≤ 256) × (places ≤ next + patternMost) ⌝ }
-    requires { ⌜ (0 < e) × (e ≤ 15) × (e ≡ 2 ^ m - 1) × (0 < b) × (b ≤ e) × (fewest ≤ 1) × (x < cap) × (x < room e b fewest places next) ⌝ }
-    ensures { λ _. ⌜ Layered m n (Field.pattern e b fewest places next x) (now (words .entry)) (now (words .exit)) ⌝ }
+// Lays the pattern of x into the zero groups, which are the places of a generation.
+fn lay_number(words: &mut [u64; 16], marks: &[u64; 16], n: usize, m: usize, g: Generation, x: u64)
+    requires { ⌜ (ZeroMarked m n (now words) (now marks)) × (g .places ≡ Field.zeros (frontGroups m n (now words))) × (Layable m g x) ⌝ }
+    ensures { λ _. ⌜ Layered m n (pattern (g .dealing) (g .places) x) (now (words .entry)) (now (words .exit)) ⌝ }
 {
-    if next == 0 {
-        lay_plain(words, marks, n, m, places, e, x + 1);
-        return;
+    let places = g.places;
+    let dealing = g.dealing;
+    match dealing {
+        Dealing::Patterns { values, fewest } => {
+            lay_dealt(words, marks, n, m, places, values, fewest, x);
+        }
+        Dealing::Digits { base } => {
+            lay_plain(words, marks, n, m, places, base, x + 1);
+        }
     }
-    lay_dealt(words, marks, n, m, places, b, fewest, x);
 }
 
-// Erases what was used and what is spare, z groups being zero, and lays the pattern of x at place i.
-fn erase_and_lay(
-    h: &[u64; 16],
-    f: Frame,
-    v: &[u64; 16],
-    i: usize,
-    x: u64,
-    z: u64,
-    words: &mut [u64; 16],
-    n: usize,
-    marks: &mut [u64; 16],
-)
-    requires { ⌜ (Granted (framed f (now v)) (now h)) × (i < f .t) × (x < getD (rangesOf (framed f (now v))) i 0) × (length (now marks) ≡ 16) ⌝ }
-    requires { ⌜ (Holds (framed f (now v)) n (now words)) × (Ready (framed f (now v)) i z (fieldGroups (framed f (now v)) n (now words))) ⌝ }
-    ensures { λ _.
-        let s = framed f (now (v .entry)) in
-        ⌜ Carries s n (afterIn s i x (fieldGroups s n (now (words .entry)))) (now (words .exit)) ⌝ }
+// A field whose groups stand in words: what it is like, its groups, the words that these take, and how many of them are zero.
+pub struct Held {
+    pub outline: Outline,
+    pub groups: usize,
+    pub n: usize,
+    pub zeros: u64,
+}
+
+// Erases what was used and what is spare, and lays the pattern of x into the places of a generation.
+fn erase_and_lay(words: &mut [u64; 16], marks: &mut [u64; 16], f: Held, g: Generation, x: u64)
+    requires { ⌜ (Takes f g x (now words)) × (length (now marks) ≡ 16) ⌝ }
+    ensures { λ _. ⌜ Carries (witsOf f) (f .groups) (f .n) (laidBy (witsOf f) g x (groupsHeld f (now (words .entry)))) (now (words .exit)) ⌝ }
 {
-    let m = f.m as usize;
-    let e = layout::all_ones(f.m);
-    let places = h[i];
-    words::erase(words, n, m, z - places, marks);
-    let next = reading::telling::next_count(h, i);
-    lay_number(
-        words,
-        marks,
-        n,
-        m,
-        places,
-        e,
-        reading::telling::base(e, i),
-        reading::telling::fewest(f, i),
-        next,
-        x,
-    );
+    let m = f.outline.m as usize;
+    words::erase(words, f.n, m, f.zeros - g.places, marks);
+    lay_number(words, marks, f.n, m, g, x);
 }
 
-// The write at place i of a number in its range on sound cells, whose groups the words hold.
+// The write of x at a generation on cells whose groups the words hold: how many wits it turns.
 fn write_at(
-    h: &[u64; 16],
-    f: Frame,
-    v: &[u64; 16],
-    i: usize,
-    x: u64,
-    z: u64,
-    words: &mut [u64; 16],
-    n: usize,
-    marks: &mut [u64; 16],
     cells: &mut [u8],
+    words: &mut [u64; 16],
+    marks: &mut [u64; 16],
+    f: Held,
+    g: Generation,
+    x: u64,
 ) -> u64
-    requires { ⌜ (Granted (framed f (now v)) (now h)) × (i < f .t) × (x < getD (rangesOf (framed f (now v))) i 0) × (length (now marks) ≡ 16) ⌝ }
-    requires { let s = framed f (now v) in
-        ⌜ (Holds s n (now words)) × (Ready s i z (fieldGroups s n (now words))) × (SoundCells s (now cells)) ⌝ }
+    requires { ⌜ (Takes f g x (now words)) × (length (now marks) ≡ 16) × (Storable (witsOf f) (f .groups) (now cells)) ⌝ }
     ensures { λ r.
-        let s = framed f (now (v .entry)) in
-        ⌜ Stored (orderOf s) (f .m) (afterIn s i x (fieldGroups s n (now (words .entry)))) (now (cells .entry)) (now (cells .exit)) r ⌝ }
+        let after = laidBy (witsOf f) g x (groupsHeld f (now (words .entry))) in
+        ⌜ ((v : List ℕ) → Stored (orderOf (outlined (f .outline) v)) (witsOf f) after (now (cells .entry)) (now (cells .exit)) r) ⌝ }
 {
-    erase_and_lay(h, f, v, i, x, z, words, n, marks);
-    cells::store(cells, layout::order(f), f.m as usize, h[0] as usize, words)
+    erase_and_lay(words, marks, f, g, x);
+    let o = f.outline;
+    cells::store(cells, shapes::order(o), o.m as usize, f.groups, words)
 }
 
 // The write on sound cells of a number that passed the fourth test: the refusals from 15 on, with the range of the generation that takes it as the last.
-fn write_sound(h: &[u64; 16], f: Frame, v: &[u64; 16], cells: &mut [u8], x: u64) -> Writing
-    requires { ⌜ (Granted (framed f (now v)) (now h)) × (overRange (framed f (now v)) x ≡ false) × (SoundCells (framed f (now v)) (now cells)) ⌝ }
+fn write_sound(h: &[u64; 16], f: Outline, v: &[u64; 16], cells: &mut [u8], x: u64) -> Writing
+    requires { ⌜ (Granted (outlined f (now v)) (now h)) × (overRange (outlined f (now v)) x ≡ false) × (SoundCells (outlined f (now v)) (now cells)) ⌝ }
     ensures { λ r.
-        let s = framed f (now (v .entry)) in
+        let s = outlined f (now (v .entry)) in
         ⌜ (writingOf r ≡ writeReply s x (now (cells .entry))) × (now (cells .exit) ≡ writeLeaves s x (now (cells .entry))) ⌝ }
 {
     let mut words = [0u64; 16];
@@ -206,21 +181,17 @@ fn write_sound(h: &[u64; 16], f: Frame, v: &[u64; 16], cells: &mut [u8], x: u64)
     let aim = take_aim(found, f.t);
     match aim {
         Aim::At(i) => {
-            if layout::range_at(f, v, i) <= x {
-                return Writing::Refused(Refusal::Plain(6));
+            let g = reading::telling::generation_at(h, f, v, i);
+            if g.range <= x {
+                return Writing::Refused(Refusal::Plain(refusals::NUMBER));
             }
-            let turned = write_at(
-                h,
-                f,
-                v,
-                i,
-                x,
-                seen.zeros,
-                &mut words,
-                seen.n,
-                &mut marks,
-                cells,
-            );
+            let held = Held {
+                outline: f,
+                groups: h[0] as usize,
+                n: seen.n,
+                zeros: seen.zeros,
+            };
+            let turned = write_at(cells, &mut words, &mut marks, held, g, x);
             Writing::Written {
                 generation: i as u64 + 1,
                 turned,
@@ -231,18 +202,18 @@ fn write_sound(h: &[u64; 16], f: Frame, v: &[u64; 16], cells: &mut [u8], x: u64)
 }
 
 // The write on a field whose layout is granted.
-pub fn write_granted(h: &[u64; 16], f: Frame, v: &[u64; 16], cells: &mut [u8], x: u64) -> Writing
-    requires { ⌜ Granted (framed f (now v)) (now h) ⌝ }
+pub fn write_granted(h: &[u64; 16], f: Outline, v: &[u64; 16], cells: &mut [u8], x: u64) -> Writing
+    requires { ⌜ Granted (outlined f (now v)) (now h) ⌝ }
     ensures { λ r.
-        let s = framed f (now (v .entry)) in
+        let s = outlined f (now (v .entry)) in
         ⌜ (writingOf r ≡ writeReply s x (now (cells .entry))) × (now (cells .exit) ≡ writeLeaves s x (now (cells .entry))) ⌝ }
 {
-    if !cells::is_sound(cells, layout::order(f), f.m as usize, h[0] as usize) {
-        return Writing::Refused(Refusal::Plain(3));
+    if !cells::is_sound(cells, shapes::order(f), f.m as usize, h[0] as usize) {
+        return Writing::Refused(Refusal::Plain(refusals::CELLS));
     }
     // In form 2 the range goes by the generation, and 6 is tested last.
     if (f.form != 2) & (v[0] <= x) {
-        return Writing::Refused(Refusal::Plain(6));
+        return Writing::Refused(Refusal::Plain(refusals::NUMBER));
     }
     write_sound(h, f, v, cells, x)
 }
@@ -250,13 +221,13 @@ pub fn write_granted(h: &[u64; 16], f: Frame, v: &[u64; 16], cells: &mut [u8], x
 pub fn write(s: Shape, cells: &mut [u8], x: u64) -> Writing
     ensures { λ r. ⌜ (writingOf r ≡ writeReply s x (now (cells .entry))) × (now (cells .exit) ≡ writeLeaves s x (now (cells .entry))) ⌝ }
 {
-    let f = layout::frame(s);
-    if bounds::frame_outside(f) {
-        return Writing::Refused(Refusal::Plain(1));
+    let f = shapes::outline_of(s);
+    if shapes::outline_outside(f) {
+        return Writing::Refused(Refusal::Plain(refusals::BOUNDS));
     }
     let mut h = [0u64; 16];
     let v = s.v;
-    let refusal = layout::lay_framed(&mut h, f, &v, 256);
+    let refusal = layout::lay_outlined(&mut h, f, &v, 256);
     if refusal != 0 {
         return Writing::Refused(Refusal::Plain(refusal));
     }

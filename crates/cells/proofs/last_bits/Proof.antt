@@ -2,7 +2,7 @@
 -- Assumes nothing.
 use borrow.Author.Needs.{needs}
 use lib.Pow.{pow-pos}
-use Rattle.words.proofs.Highest.{power-shifted}
+use Rattle.binary.proofs.Shifts.{power-shifted}
 use Rattle.cells.proofs.last_bits.Statement.{statement}
 use Rattle.cells.proofs.last_bits.Tie as tie
 

@@ -18,7 +18,7 @@ loop-again : tie.Need-loop-again Inv-loop μ-loop
 loop-again c = loading-more (c .before .before .before .before .before .pre .0) (c .before .before .loop .inv) _ (omega arith) (c .word .ensures)
 
 returns : tie.Need-returns Inv-loop μ-loop
-returns c = rw (c .«ones-below» .ensures) (loading-all (c .before .before .before .before .before .before .pre .0) (c .before .before .before .loop .inv) _
+returns c = rw (c .«low-ones» .ensures) (loading-all (c .before .before .before .before .before .before .pre .0) (c .before .before .before .loop .inv) _
     (omega arith) (c .before .«any-word» .ensures))
 
 pub load-spec : {M : Type 1} → statement M

@@ -10,7 +10,7 @@ use Rattle.dealing.proofs.rank_from.Reads as rank-from
 use Rattle.dealing.proofs.rank_from.Kinds as rank-from-kinds
 use Rattle.dealing.proofs.+rank_from.Lts-rank_from as rank-from-lts
 use Rattle.counting.proofs.binomial.Reads as binomial-reads
-use Rattle.dealing.proofs.wide.Reads as wide-reads
+use Rattle.binary.proofs.wide.Reads as wide-reads
 use Rattle.dealing.proofs.+rank_from.{statement}
 use Rattle.dealing.proofs.+rank_from.Tie.{close}
 

@@ -3,7 +3,7 @@ use Prim.Native.Nat.{_≤_}
 use native.Mathlib.Nat.{div-le-self}
 use native.Mathlib.Omega.{arith}
 use borrow.Author.Needs.{needs}
-use Rattle.code.specs.Chosen.{patternMost}
+use Rattle.code.proofs.Chosen.{patternMost}
 use Rattle.dealing.proofs.Drawing.{chosen-none, split-few, split-divisor, split-rank, split-digits, split-chosen}
 use Rattle.dealing.proofs.deal.Statement.{statement}
 use Rattle.dealing.proofs.deal.Tie as tie

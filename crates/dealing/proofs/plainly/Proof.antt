@@ -6,7 +6,7 @@ use native.Mathlib.Omega.{arith}
 use borrow.Author.Needs.{needs}
 use lib.ListN.{length, take, set, length-set}
 use lib.Seq.{length-take-le}
-use Rattle.code.specs.Chosen.{patternMost}
+use Rattle.code.proofs.Chosen.{patternMost}
 use Rattle.dealing.proofs.Drawing.{Placed, place-begin, fill-two, fill-one, fill-end}
 use Rattle.dealing.proofs.plainly.Statement.{statement}
 use Rattle.dealing.proofs.plainly.Tie as tie

@@ -4,7 +4,7 @@ use Prim.Native.Nat.{suc, _-_, _<_, _≤_}
 use native.Mathlib.Omega.{arith}
 use borrow.Author.Needs.{needs}
 use lib.ListN.{length, length-set}
-use Rattle.code.specs.Chosen.{patternMost}
+use Rattle.code.proofs.Chosen.{patternMost}
 use Rattle.counting.proofs.Laws.{choose-one}
 use Rattle.dealing.specs.Pick.{Candidate}
 use Rattle.dealing.proofs.Drawing.{Unranking, unrank-begin, unrank-last, enough, stepped, followed, turn}

@@ -9,8 +9,9 @@ use denote.Ref.{now}
 use lib.ListN.{length}
 use Rattle.code.specs.Lists.{Below}
 use Rattle.code.specs.Cells.{sound}
-use Rattle.code.specs.Shape.{framed, orderOf, widthOf}
-use Rattle.code.specs.Dump.{recordOf}
+use Rattle.code.specs.Shape.{orderOf, widthOf}
+use Rattle.shapes.specs.Outlines.{outlined}
+use Rattle.code.specs.Export.{recordOf}
 use Rattle.layout.specs.Plan.{Granted}
 use Rattle.layout.proofs.Planning.{plan-refused, plan-granted}
 use Rattle.exports.specs.Exported.{Exported}
@@ -21,7 +22,7 @@ use Rattle.exports.proofs.export_cells.Tie as tie
 -- where no refusal of the layout returned
 granted-here : (c : tie.Else1) →
     let a = c .before .before .before .before .before .before .args in
-    Granted (framed (a .f) (now (a .v))) (c .before .lay-into .last .0)
+    Granted (outlined (a .f) (now (a .v))) (c .before .lay-into .last .0)
 granted-here c = plan-granted _ (c .before .lay-into .ensures) (omega arith)
 
 below-here : (c : tie.Else1) → Below (2 ^ 63) (now (c .before .before .before .before .before .before .args .head))
@@ -29,7 +30,7 @@ below-here c = c .before .before .before .before .before .before .pre .0 (grante
 
 sound-here : (c : tie.After-is-sound) →
     let a = c .before .before .before .before .before .before .before .before .args in
-    let s = framed (a .f) (now (a .v)) in
+    let s = outlined (a .f) (now (a .v)) in
     c .is-sound .result ≡ sound (orderOf s) (s .m) (widthOf s) (now (a .cells))
 unfolding widthOf
 sound-here c =
@@ -49,7 +50,7 @@ room-here c = omega (arith, length-here (c .before))
 -- where the output is too short
 refused-here : (c : tie.Then3) →
     let a = c .before .before .before .before .before .before .before .before .before .before .before .args in
-    Exported (framed (a .f) (now (a .v))) (now (a .head)) (now (a .cells)) (now (a .out)) (9 ∷ []) (now (a .out))
+    Exported (outlined (a .f) (now (a .v))) (now (a .head)) (now (a .cells)) (now (a .out)) (9 ∷ []) (now (a .out))
 refused-here c =
     let s = c .before .before .before in
     let G = granted-here (s .before .before) in

@@ -21,7 +21,7 @@ use Rattle.exports.proofs.export_layout.Tie as tie
 -- the layout of the shape, as it is laid
 laid-here : (c : tie.After-lay-into) → let s = c .before .before .before .before .before .before .args .shape in
     c .lay-into .result ∷ c .lay-into .last .0 ≡ filled layoutFields (layoutReply s 256)
-laid-here c = rw (c .before .before .frame .ensures) at (c .lay-into .ensures)
+laid-here c = rw (c .before .before .outline-of .ensures) at (c .lay-into .ensures)
 
 -- where no refusal of it returned
 granted-here : (c : tie.Else1) → Granted (c .before .before .before .before .before .before .before .args .shape) (c .before .lay-into .last .0)

@@ -2,7 +2,7 @@
 use mathlib.Core.Path.{refl}
 use native.Mathlib.Omega.{arith}
 use borrow.Author.Needs.{needs}
-use Rattle.code.specs.Dump.{oldExport}
+use Rattle.code.specs.Export.{oldExport}
 use Rattle.code.proofs.ExportCall.{export-late}
 use Rattle.exports.proofs.export_old.Statement.{statement}
 use Rattle.exports.proofs.export_old.Tie as tie

@@ -3,7 +3,7 @@ use mathlib.Core.Path.{refl, sym}
 use native.Mathlib.Omega.{arith}
 use borrow.Author.Needs.{needs}
 use borrow.Author.Tests.{lt-ltb, le-ltb}
-use Rattle.code.specs.Dump.{newExport}
+use Rattle.code.specs.Export.{newExport}
 use Rattle.code.proofs.ExportCall.{export-late, export-off-list}
 use Rattle.exports.proofs.export_record.Statement.{statement}
 use Rattle.exports.proofs.export_record.Tie as tie
@@ -27,5 +27,5 @@ export-record-spec =
     (λ c.
     let a = c .before .before .before .before .before .before .before .before .before .before .before .before .args in
     let x = newExport (a .serial) (a .layout) (a .shape) in
-    let shape = sym (c .before .before .before .before .before .before .frame .ensures) in
+    let shape = sym (c .before .before .before .before .before .before .outline-of .ensures) in
     c .before .before .export-cells .ensures x shape refl (omega arith) (le-ltb 63 (a .layout) (omega arith))))

@@ -2,7 +2,8 @@
 use native.Mathlib.Omega.{arith}
 use borrow.Author.Needs.{needs}
 use denote.Ref.{now}
-use Rattle.code.specs.Shape.{framed, firstOf}
+use Rattle.code.specs.Shape.{firstOf}
+use Rattle.shapes.specs.Outlines.{outlined}
 use Rattle.code.proofs.LayoutCall.{first-form}
 use Rattle.climbing.proofs.Pascal.{least-from}
 use Rattle.layout.proofs.first_count.Statement.{statement}
@@ -25,7 +26,7 @@ first-count-spec =
     -- returns
     (λ c.
     let a = c .before .before .before .before .args in
-    let s = framed (a .f) (now (a .v)) in
+    let s = outlined (a .f) (now (a .v)) in
     let r = c .before .before .before .range-at .ensures .0 in
     let one = c .before .before .first .ensures .0 (s .v) in
     least-from (a .e) (firstOf s) _ (first-form s) (c .climb .ensures) (omega (arith, r, one))))

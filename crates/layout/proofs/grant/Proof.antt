@@ -2,7 +2,8 @@
 use mathlib.Core.Path.{_∙_}
 use borrow.Author.Needs.{needs}
 use denote.Ref.{now}
-use Rattle.code.specs.Shape.{framed, firstOf}
+use Rattle.code.specs.Shape.{firstOf}
+use Rattle.shapes.specs.Outlines.{outlined}
 use Rattle.layout.proofs.Reply.{refused, first-stored, first-refused}
 use Rattle.layout.proofs.grant.Statement.{statement}
 use Rattle.layout.proofs.grant.Tie as tie
@@ -21,7 +22,7 @@ grant-spec =
     (λ c.
     let o = c .before .before .before .before .before in
     let a = o .before in
-    let s = framed (a .args .f) (now (a .args .v)) in
+    let s = outlined (a .args .f) (now (a .args .v)) in
     let crowded = c .before .before .before .later-counts .ensures .crowded (c .before .before .if1 .taken) in
     c .refuse .ensures ∙ refused s (a .pre .1 .0) (o .all-ones .ensures .0) (crowded (o .all-ones .result) (firstOf s)))
     -- first-count-requires
@@ -33,7 +34,7 @@ grant-spec =
     let l = c .before .before .before .before .before in
     let o = l .before .before in
     let a = o .before in
-    let s = framed (a .args .f) (now (a .args .v)) in
+    let s = outlined (a .args .f) (now (a .args .v)) in
     let B = l .later-counts .ensures in
     let room = c .before .before .before .before .if1 .left in
     let L = c .before .before .before .first-count .ensures in
@@ -45,7 +46,7 @@ grant-spec =
     let l = c .before .before .before in
     let o = l .before .before in
     let a = o .before in
-    let s = framed (a .args .f) (now (a .args .v)) in
+    let s = outlined (a .args .f) (now (a .args .v)) in
     let B = l .later-counts .ensures in
     let room = c .before .before .if1 .left in
     let L = c .before .first-count .ensures in

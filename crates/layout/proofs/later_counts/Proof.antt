@@ -5,7 +5,8 @@ use native.Mathlib.Omega.{arith}
 use borrow.Author.Needs.{needs}
 use denote.Ref.{now}
 use lib.ListN.{getD}
-use Rattle.code.specs.Shape.{framed, rangesOf}
+use Rattle.code.specs.Shape.{rangesOf}
+use Rattle.shapes.specs.Outlines.{outlined}
 use Rattle.code.proofs.LayoutCall.{ranges-length, range-within}
 use Rattle.layout.specs.Tail.{Aimed, Tail}
 use Rattle.layout.proofs.Tail.{last-stored, last-crowded, next-stored, next-crowded, Turn, turn-at, asked-later, all-stored}
@@ -14,7 +15,7 @@ use Rattle.layout.proofs.later_counts.Tie as tie
 
 abbrev Inv-loop : tie.InvT-loop
 Inv-loop h₀ f v g e i₀ low₀ goal₀ h i low goal =
-    Tail g e (f .t) (rangesOf (framed f v)) i low h × (0 < i) × (0 < low) × (low < g) × Aimed (e - 1) (f .form) (getD v 0 0) (goal .need) (goal .cut)
+    Tail g e (f .t) (rangesOf (outlined f v)) i low h × (0 < i) × (0 < low) × (low < g) × Aimed (e - 1) (f .form) (getD v 0 0) (goal .need) (goal .cut)
 
 abbrev μ-loop : tie.MeasureT-loop
 μ-loop h₀ f v g e i₀ low₀ goal₀ h i low goal = i
@@ -39,7 +40,7 @@ later-counts-spec =
     -- returns
     (λ c.
     let a = c .before .before .before in
-    let s = framed (a .args .f) (now (a .args .v)) in
+    let s = outlined (a .args .f) (now (a .args .v)) in
     let p = a .pre in
     let r = c .before .before .range-at .ensures .0 in
     last-crowded (p .2) (ranges-length s (p .0)) (p .0 .t-low) (p .0 .t-high) (p .4) r (c .before .last-count .ensures) (c .if1 .taken))
@@ -54,7 +55,7 @@ later-counts-spec =
     -- loop-holds
     (λ c.
     let a = c .before .before .before .before in
-    let s = framed (a .args .f) (now (a .args .v)) in
+    let s = outlined (a .args .f) (now (a .args .v)) in
     let p = a .pre in
     let r = c .before .before .before .range-at .ensures .0 in
     let L = c .before .before .last-count .ensures in
@@ -75,7 +76,7 @@ later-counts-spec =
     let a = c .before .before .before .before .before .before .before in
     let l = c .before .before .loop in
     let p = a .pre in
-    let w = range-within (framed (a .args .f) (now (a .args .v))) (p .0) (l .i - 1) (turn-here (c .before) .within) in
+    let w = range-within (outlined (a .args .f) (now (a .args .v))) (p .0) (l .i - 1) (turn-here (c .before) .within) in
     asked-later (p .2) (p .3) (l .inv .3) (p .1) w (c .goal-at .ensures .0) (c .goal-at .ensures .1 .cuts))
     -- returns-2
     (λ c.

@@ -7,9 +7,9 @@ pub lay-out-spec : {M : Type 1} → statement M
 lay-out-spec =
     tie.close
     (tie.spec
-    -- frame-requires
+    -- outline-of-requires
     (λ c κs. search needs)
     -- lay-into-requires
     (λ c κs. search needs)
     -- returns
-    (λ c. rw (c .before .before .frame .ensures) at (c .lay-into .ensures)))
+    (λ c. rw (c .before .before .outline-of .ensures) at (c .lay-into .ensures)))

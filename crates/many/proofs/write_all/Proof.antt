@@ -24,7 +24,7 @@ write-all-spec =
     let l = c .before .before in
     let few = l .before .before .before .before .before in
     let some = lt-of-le-ne (omega arith) (λ z. c .before .if2 .taken (sym z)) in
-    let none = plan-refused _ (rw (l .before .before .before .before .frame .ensures) at (l .lay-into .ensures)) some in
+    let none = plan-refused _ (rw (l .before .before .before .before .outline-of .ensures) at (l .lay-into .ensures)) some in
     no-layout _ _ _ (omega (arith, few .if1 .left)) _ none _ _ (c .refuse2 .ensures) (few .before .before .before .pre))
     -- field-bytes-requires
     (λ c κs. plan-granted _ (c .before .before .before .lay-into .ensures) (c .before .before .if2 .left))
@@ -38,7 +38,7 @@ write-all-spec =
     let d = c .before in
     let l = d .before .before .before .before .before in
     let few = l .before .before .before .before .before in
-    let same = l .before .before .before .before .frame .ensures in
+    let same = l .before .before .before .before .outline-of .ensures in
     let G = plan-granted _ (rw same at (l .lay-into .ensures)) (d .before .before .before .before .if2 .left) in
     let other = rw (rw same at (d .before .field-bytes .ensures .0)) at (d .if3 .taken) in
     other-length _ _ _ (omega (arith, few .if1 .left)) (G .ok) other _ _ (c .refuse3 .ensures) (few .before .before .before .pre))
@@ -55,7 +55,7 @@ write-all-spec =
     let d = c .before .before .before .before .before .before .before in
     let l = d .before .before .before .before .before in
     let few = l .before .before .before .before .before in
-    let same = l .before .before .before .before .frame .ensures in
+    let same = l .before .before .before .before .outline-of .ensures in
     let G = plan-granted _ (rw same at (l .lay-into .ensures)) (d .before .before .before .before .if2 .left) in
     let long = rw (rw same at (d .before .field-bytes .ensures .0)) at (d .if3 .left) in
     written-in-order _ _ _ (omega (arith, few .if1 .left)) (G .ok) long (rw same at (c .before .before .write-fields .ensures))))

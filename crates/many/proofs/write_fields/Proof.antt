@@ -6,14 +6,14 @@ use native.Mathlib.Nat.{suc-mul, mul-le-mul}
 use borrow.Author.Needs.{needs}
 use denote.Ref.{now}
 use lib.ListN.{length, take, drop}
-use Rattle.code.specs.Shape.{framed}
+use Rattle.shapes.specs.Outlines.{outlined}
 use Rattle.many.proofs.Going.{Going, rows-none, rows-next, going-begin, after-same, going-next, going-stop, going-end}
 use Rattle.many.proofs.Small.{field-small}
 use Rattle.many.proofs.write_fields.Statement.{statement}
 use Rattle.many.proofs.write_fields.Tie as tie
 
 abbrev Inv-loop : tie.InvT-loop
-Inv-loop h f v cells₀ size numbers rows₀ j₀ cells rows j = Going (framed f v) numbers cells₀ cells (take 64 rows) (drop 64 rows) j
+Inv-loop h f v cells₀ size numbers rows₀ j₀ cells rows j = Going (outlined f v) numbers cells₀ cells (take 64 rows) (drop 64 rows) j
 
 abbrev μ-loop : tie.MeasureT-loop
 μ-loop h f v cells₀ size numbers rows₀ j₀ cells rows j = length numbers - j
@@ -27,7 +27,7 @@ small : (c : tie.After-known-told Inv-loop μ-loop) → let given = c .before .g
 small c =
     let a = c .before .before .before .before .before .before .before .before .before .before .before .before in
     let w = c .before .before .before .before .before .write-one .ensures in
-    field-small (framed (a .args .f) (now (a .args .v))) (a .pre .0 .0) _ _ _ _ (rw (c .before .generation .given .1, a .pre .0 .1) at (w .0))
+    field-small (outlined (a .args .f) (now (a .args .v))) (a .pre .0 .0) _ _ _ _ (rw (c .before .generation .given .1, a .pre .0 .1) at (w .0))
 
 -- a field more
 again : tie.Need-loop-again Inv-loop μ-loop

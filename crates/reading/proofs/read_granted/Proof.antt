@@ -3,14 +3,14 @@ use borrow.Author.Needs.{needs}
 use mathlib.Core.Path.{refl, sym, _∙_}
 use borrow.Author.Tests.{not-false}
 use denote.Ref.{now}
-use Rattle.code.specs.Shape.{framed}
+use Rattle.shapes.specs.Outlines.{outlined}
 use Rattle.reading.specs.Answers.{SoundCells}
 use Rattle.reading.proofs.Judging.{sound-width, reads-3, reads-as}
 use Rattle.reading.proofs.read_granted.Statement.{statement}
 use Rattle.reading.proofs.read_granted.Tie as tie
 
 -- the cells are sound where no refusal returned
-right : (c : tie.Else1) → let a = c .before .before .before .before .before .args in SoundCells (framed (a .f) (now (a .v))) (now (a .cells))
+right : (c : tie.Else1) → let a = c .before .before .before .before .before .args in SoundCells (outlined (a .f) (now (a .v))) (now (a .cells))
 right c =
     let a = c .before .before .before .before .before in
     sym (sound-width (a .pre) (now (a .args .cells)) _ (c .before .before .before .order .ensures (now (a .args .v)))) ∙ sym (c .before .is-sound .ensures)

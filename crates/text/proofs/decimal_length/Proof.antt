@@ -4,7 +4,7 @@ use Prim.Native.Nat.{_+_, _^_, _<_}
 use native.Mathlib.Omega.{arith}
 use borrow.Author.Needs.{needs}
 use lib.ListN.{length}
-use Rattle.code.specs.Dump.{decimal}
+use Rattle.code.specs.Listing.{decimal}
 use Rattle.code.proofs.Digits.{spelled-last, spelled-longer, spelled-few}
 use Rattle.text.proofs.decimal_length.Statement.{statement}
 use Rattle.text.proofs.decimal_length.Tie as tie

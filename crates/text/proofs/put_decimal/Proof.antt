@@ -3,7 +3,7 @@ use mathlib.Core.Path.{_≡_, refl}
 use Prim.Native.Nat.{_+_, _-_, _^_, _/_, _%_, _<_}
 use native.Mathlib.Omega.{arith}
 use borrow.Author.Needs.{needs}
-use Rattle.code.specs.Dump.{decimal}
+use Rattle.code.specs.Listing.{decimal}
 use Rattle.code.proofs.Digits.{spelled-last, spelled-next, spelled-longer, spelled-few}
 use Rattle.storing.proofs.Put.{Storing, storing-begin, storing-first, storing-last}
 use Rattle.text.proofs.put_decimal.Statement.{statement}

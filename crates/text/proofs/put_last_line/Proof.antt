@@ -3,7 +3,8 @@ use mathlib.Core.Path.{refl}
 use mathlib.Core.List.{append-assoc}
 use native.Mathlib.Omega.{arith}
 use borrow.Author.Needs.{needs}
-use Rattle.code.specs.Dump.{ascii, lastLine}
+use Rattle.code.specs.Lists.{ascii}
+use Rattle.code.specs.Listing.{lastLine}
 use Rattle.text.proofs.Laws.{exactly, within-then}
 use Rattle.text.proofs.put_last_line.Statement.{statement}
 use Rattle.text.proofs.put_last_line.Tie as tie

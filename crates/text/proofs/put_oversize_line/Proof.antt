@@ -2,7 +2,8 @@
 use mathlib.Core.Path.{refl}
 use native.Mathlib.Omega.{arith}
 use borrow.Author.Needs.{needs}
-use Rattle.code.specs.Dump.{ascii, spelled, stopLines}
+use Rattle.code.specs.Lists.{ascii}
+use Rattle.code.specs.Listing.{spelled, stopLines}
 use Rattle.text.proofs.Laws.{exactly}
 use Rattle.text.proofs.put_oversize_line.Statement.{statement}
 use Rattle.text.proofs.put_oversize_line.Tie as tie

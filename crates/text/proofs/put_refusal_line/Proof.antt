@@ -4,7 +4,8 @@ use mathlib.Core.List.{append-assoc}
 use native.Mathlib.Omega.{arith}
 use borrow.Author.Needs.{needs}
 use borrow.Author.Tests.{ne-eqb}
-use Rattle.code.specs.Dump.{ascii, recordLine}
+use Rattle.code.specs.Lists.{ascii}
+use Rattle.code.specs.Listing.{recordLine}
 use Rattle.text.proofs.Laws.{exactly, within-then}
 use Rattle.text.proofs.put_refusal_line.Statement.{statement}
 use Rattle.text.proofs.put_refusal_line.Tie as tie

@@ -3,7 +3,8 @@ use mathlib.Core.Path.{refl}
 use mathlib.Core.List.{append-assoc}
 use native.Mathlib.Omega.{arith}
 use borrow.Author.Needs.{needs}
-use Rattle.code.specs.Dump.{ascii, spelled, stopLines}
+use Rattle.code.specs.Lists.{ascii}
+use Rattle.code.specs.Listing.{spelled, stopLines}
 use Rattle.text.proofs.Laws.{exactly, within-then}
 use Rattle.text.proofs.put_stop_lines.Statement.{statement}
 use Rattle.text.proofs.put_stop_lines.Tie as tie

@@ -7,11 +7,7 @@ pub halt-walk-spec : {M : Type 1} → statement M
 halt-walk-spec =
     tie.close
     (tie.spec
-    -- enum-known-halt
-    (λ c. search needs)
-    -- enum-told
-    (λ c. search needs)
+    -- flat-halt-requires
+    (λ c κs. search needs)
     -- returns
-    (λ c. rw (c .before .halt .given .1))
-    -- returns-2
-    (λ c. rw (c .enum-told .given .1)))
+    (λ c. let told = c .flat-halt .ensures in rw (told .0, told .1)))

@@ -1,7 +1,7 @@
 -- `words::gather_word` meets its contract. Assumes nothing.
 use Rattle.words.proofs.Gathering.{leftover-none, leftover-label, leftover-group, leftover-mask, leftover-less, leftover-room, leftover-more}
 use Rattle.words.proofs.Filling.{Filling, filling-all}
-use Rattle.code.specs.Chosen.{patternMost}
+use Rattle.code.proofs.Chosen.{patternMost}
 use Rattle.words.specs.Marks.{Leftover, picked, labelIn, lessIn, writtenMarks, topOf}
 use Rattle.words.specs.Words.{wordGroups}
 use Prim.Native.Nat.{ℕ, _+_, _-_, _<_}

@@ -3,7 +3,7 @@ use Rattle.words.specs.Marks.{groupsIn}
 use Rattle.code.specs.Field.{zeros}
 use lib.ListN.{getD, take}
 use Rattle.words.proofs.Patterns.{Spread, spread-none, spread-inside, spread-all, spread-blanks, spread-right, spread-rest, spread-more}
-use Rattle.code.specs.Chosen.{scattered}
+use Rattle.code.proofs.Chosen.{scattered}
 use Prim.Native.Nat.{_+_, _-_, _≤_, _<_}
 use mathlib.Core.Path.{_≡_}
 use native.Mathlib.Omega.{arith}

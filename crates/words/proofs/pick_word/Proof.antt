@@ -6,7 +6,7 @@ use Rattle.words.specs.Marks.{Marks, groupIn}
 use Rattle.words.specs.Words.{wordGroups, groupsAt}
 use Prim.Native.Nat.{_<_}
 use native.Mathlib.Omega.{arith}
-use Rattle.code.specs.Chosen.{patternMost}
+use Rattle.code.proofs.Chosen.{patternMost}
 use borrow.Author.Needs.{needs}
 use Rattle.words.proofs.pick_word.Statement.{statement}
 use Rattle.words.proofs.pick_word.Tie as tie

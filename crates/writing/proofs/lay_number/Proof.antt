@@ -1,36 +1,36 @@
 -- `writing::lay_number` meets its contract. Assumes nothing.
 use native.Mathlib.Omega.{arith}
 use borrow.Author.Needs.{needs}
-use mathlib.Core.Path.{sym}
-use lib.Arith.{lt-of-le-ne}
-use Rattle.code.proofs.Places.{room-last, room-before, pattern-last, pattern-before}
+use Rattle.writing.proofs.Laying.{digits-ask, digits-laid, patterns-ask, patterns-laid}
 use Rattle.writing.proofs.lay_number.Statement.{statement}
 use Rattle.writing.proofs.lay_number.Tie as tie
+
+lay-dealt-requires : tie.Need-lay-dealt-requires
+lay-dealt-requires c κs =
+    let p = c .before .before .before .before .pre in
+    let k = patterns-ask (p .2) (c .before .before .dealing .given .1) in
+    ((p .0, p .1, p .2 .few), (k .0, k .1, k .2, k .3, k .4, k .5))
+
+lay-plain-requires : tie.Need-lay-plain-requires
+lay-plain-requires c κs =
+    let p = c .before .before .before .before .pre in
+    let k = digits-ask (p .2) (c .before .before .dealing2 .given .1) in
+    ((p .0, p .1, k .0), (k .1, k .2, k .3, k .4))
+
+returns : tie.Need-returns
+returns c = rw (patterns-laid (c .before .before .before .before .before .pre .2) (c .before .before .before .dealing .given .1)) at (c .lay-dealt .ensures)
+
+returns-2 : tie.Need-returns-2
+returns-2 c = rw (digits-laid (c .before .before .before .before .before .pre .2) (c .before .before .before .dealing2 .given .1)) at (c .lay-plain .ensures)
 
 pub lay-number-spec : {M : Type 1} → statement M
 lay-number-spec =
     tie.close
     (tie.spec
     (λ c. search needs)
-    -- lay-plain-requires
-    (λ c κs.
-    let a = c .before .before in
-    let p = a .pre in
-    let last = room-last (a .args .e) (a .args .b) (a .args .fewest) (a .args .next) (c .before .if1 .taken) (a .args .places) in
-    ((p .0 .0, p .0 .1, omega (arith, p .0 .3, c .before .if1 .taken)), (p .1 .0, p .1 .1, p .1 .2, omega (arith, p .1 .7, last))))
-    -- returns
-    (λ c.
-    let a = c .before .before .before .args in
-    rw (pattern-last (a .e) (a .b) (a .fewest) (a .next) (c .before .before .if1 .taken) (a .places) (a .x)) (c .lay-plain .ensures))
-    -- lay-dealt-requires
-    (λ c κs.
-    let a = c .before .before in
-    let p = a .pre in
-    let more = lt-of-le-ne (omega arith) (λ z. c .before .if1 .left (sym z)) in
-    let r = room-before (a .args .e) (a .args .b) (a .args .fewest) (a .args .places) (a .args .next) more in
-    ((p .0 .0, p .0 .1, p .0 .2), (p .1 .3, omega (arith, p .1 .4, p .1 .1), omega (arith, p .1 .4, p .1 .2), p .1 .5, p .1 .6, omega (arith, p .1 .7, r))))
-    -- returns-2
-    (λ c.
-    let a = c .before .before .before .args in
-    let more = lt-of-le-ne (omega arith) (λ z. c .before .before .if1 .left (sym z)) in
-    rw (pattern-before (a .e) (a .b) (a .fewest) (a .places) (a .next) (a .x) more) (c .lay-dealt .ensures)))
+    lay-dealt-requires
+    (λ c. search needs)
+    (λ c. search needs)
+    lay-plain-requires
+    returns
+    returns-2)

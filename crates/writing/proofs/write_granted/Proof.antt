@@ -3,7 +3,7 @@ use borrow.Author.Needs.{needs}
 use mathlib.Core.Path.{sym, _∙_}
 use borrow.Author.Tests.{not-false}
 use denote.Ref.{now}
-use Rattle.code.specs.Shape.{framed}
+use Rattle.shapes.specs.Outlines.{outlined}
 use Rattle.code.specs.Calls.{overRange}
 use Rattle.reading.specs.Answers.{SoundCells}
 use Rattle.reading.proofs.Judging.{sound-width}
@@ -12,7 +12,7 @@ use Rattle.writing.proofs.write_granted.Statement.{statement}
 use Rattle.writing.proofs.write_granted.Tie as tie
 
 -- the cells are sound where no refusal returned
-right : (c : tie.Else1) → let a = c .before .before .before .before .before .before .args in SoundCells (framed (a .f) (now (a .v))) (now (a .cells))
+right : (c : tie.Else1) → let a = c .before .before .before .before .before .before .args in SoundCells (outlined (a .f) (now (a .v))) (now (a .cells))
 right c =
     let a = c .before .before .before .before .before .before in
     sym (sound-width (a .pre) _ _ (c .before .before .before .order .ensures (now (a .args .v)))) ∙ sym (c .before .is-sound .ensures)

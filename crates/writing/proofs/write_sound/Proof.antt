@@ -2,16 +2,20 @@
 use native.Mathlib.Omega.{arith}
 use borrow.Author.Needs.{needs}
 use denote.Ref.{now}
-use mathlib.Core.Path.{refl, sym, _∙_}
-use Rattle.code.specs.Shape.{framed}
+use mathlib.Core.Path.{refl, sym, ap, _∙_}
+use Prim.Native.Nat.{_<_, _≤_}
+use lib.ListN.{getD}
+use Rattle.code.specs.declared.Generation.{Generation}
+use Rattle.code.specs.Shape.{rangesOf}
+use Rattle.shapes.specs.Outlines.{outlined}
 use Rattle.reading.specs.Answers.{foundOf}
-use Rattle.writing.proofs.Rewriting.{Aimed, aims, placed, writes-late, writes-as, writes-not}
+use Rattle.writing.proofs.Rewriting.{Aimed, aims, takes-it, storable-as, writes-late, writes-as, writes-not}
 use Rattle.writing.proofs.write_sound.Statement.{statement}
 use Rattle.writing.proofs.write_sound.Tie as tie
 
 -- the place that is aimed at
 aimed : (c : tie.After-known-told) → let l = c .before .before .before .before in let a = l .before .before .before .before .before .args in
-    Aimed (framed (a .f) (now (a .v))) (foundOf (l .look-at .result .found)) (c .before .aim .given .0 .0)
+    Aimed (outlined (a .f) (now (a .v))) (foundOf (l .look-at .result .found)) (c .before .aim .given .0 .0)
 aimed c =
     let aim = c .before in
     let l = aim .before .before .before in
@@ -28,30 +32,33 @@ write-sound-spec =
     (λ c κs. search needs)
     -- enum-known-aim
     (λ c. search needs)
-    -- range-at-requires
-    (λ c κs. let a = c .before .before .before .before .before .before .before .before .before in (a .pre .0 .bounds, omega (arith, aimed c .low)))
+    -- generation-at-requires
+    (λ c κs. let a = c .before .before .before .before .before .before .before .before .before in (a .pre .0, aimed c .low))
     -- same-length
     (λ c. search needs)
     -- returns
     (λ c.
-    let k = c .before .before in
-    let l = k .before .before .before .before in
+    let g = c .before .before in
+    let l = g .before .before .before .before .before in
     let a = l .before .before .before .before .before in
-    let late = rw (c .before .range-at .ensures .0) at (c .if1 .taken) in
-    writes-late (a .pre .0) (a .args .x) _ (a .pre .2) (a .pre .1) (l .look-at .ensures .0) (aimed k) late)
+    let late = rw (ap (λ (g : Generation). g .range) (g .generation-at .ensures)) at (c .if1 .taken) in
+    writes-late (a .pre .0) (a .args .x) _ (a .pre .2) (a .pre .1) (l .look-at .ensures .0) (aimed (g .before)) late)
+    -- element-copy-out
+    (λ c. search needs)
     -- write-at-requires
     (λ c κs.
-    let r = c .before .before .before .before in
-    let k = r .before in
-    let l = k .before .before .before .before in
+    let i = c .before .before .before .before in
+    let g = i .before .before in
+    let l = g .before .before .before .before .before in
     let a = l .before .before .before .before .before in
     let K = l .look-at .ensures in
-    let b = rw (r .range-at .ensures .0) at (c .before .before .before .if1 .left) in
-    let P = placed (a .pre .0) (a .args .x) _ (a .pre .2) (a .pre .1) (K .0) (aimed k) b in
-    ((a .pre .0, aimed k .low, b, K .1), (K .0 .holds, P .ready, a .pre .2)))
-    -- add-t26
+    let q = g .generation-at .ensures in
+    let b = rw (ap (λ (g : Generation). g .range) q) at (i .if1 .left) in
+    (takes-it (a .pre .0) (a .args .x) _ (a .pre .2) (a .pre .1) (K .0) (aimed (g .before)) b q refl refl refl refl, K .1,
+    storable-as (a .pre .0) (a .args .x) _ (a .pre .2) (a .pre .1) (K .0) (aimed (g .before)) b q))
+    -- add-t27
     (λ c.
-    let k = c .before .before .before .before .before .before .before .before in
+    let k = c .before .before .before .before .before .before .before .before .before .before in
     let a = k .before .before .before .before .before .before .before .before .before in
     omega (arith, aimed k .low, a .pre .0 .bounds .t-high))
     -- enum-known-aim-2
@@ -60,12 +67,14 @@ write-sound-spec =
     (λ c. search needs)
     -- returns-2
     (λ c.
-    let r = c .before .before .before .before .before .before .before in
-    let k = r .before in
-    let l = k .before .before .before .before in
+    let w = c .before .before in
+    let i = w .before .before .before .before .before in
+    let g = i .before .before in
+    let l = g .before .before .before .before .before in
     let a = l .before .before .before .before .before in
-    let b = rw (r .range-at .ensures .0) at (c .before .before .before .before .before .before .if1 .left) in
-    writes-as (a .pre .0) (a .args .x) _ (a .pre .2) (a .pre .1) (l .look-at .ensures .0) (aimed k) b _ _ (c .before .before .write-at .ensures))
+    let q = g .generation-at .ensures in
+    let b = rw (ap (λ (g : Generation). g .range) q) at (i .if1 .left) in
+    writes-as (a .pre .0) (a .args .x) _ (a .pre .2) (a .pre .1) (l .look-at .ensures .0) (aimed (g .before)) b q _ _ (w .write-at .ensures (now (a .args .v))))
     -- same-length-3
     (λ c. search needs)
     -- returns-3

@@ -14,4 +14,4 @@ work-out-spec =
     -- returns
     (λ c.
     let framing = c .before .before .before .before .before in
-    (refl, record { planned = record { right = c .lay-into .ensures }; same = framing .frame .ensures ∙ framing .before .shape-said .ensures })))
+    (refl, record { planned = record { right = c .lay-into .ensures }; same = framing .outline-of .ensures ∙ framing .before .shape-said .ensures })))

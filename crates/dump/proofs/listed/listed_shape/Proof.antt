@@ -31,5 +31,5 @@ listed-shape-spec =
     -- returns-2
     (λ c.
     let halted = c .before .before .before in
-    let told = ap (λ number. number ∷ replicate 20 0) (c .before .number-of .ensures) in
+    let told = ap (λ number. number ∷ replicate 20 0) (c .before .flat-halt .ensures .0) in
     c .refuse .ensures ∙ told ∙ listed-barred _ (halted .before .before .«open» .ensures) (halted .halt .given .1)))

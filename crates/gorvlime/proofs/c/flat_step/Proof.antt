@@ -25,4 +25,4 @@ flat-step-spec =
     -- returns-2
     (λ c. c .no-record .ensures ∙ rw (c .before .enum-told .given .1) (found-none 0))
     -- returns-3
-    (λ c. c .flat-halt .ensures ∙ rw (c .before .before .a2 .given .1)))
+    (λ c. c .no-step .ensures ∙ rw (c .before .before .a2 .given .1)))

@@ -2,7 +2,7 @@
 use mathlib.Core.Path.{refl}
 use native.Mathlib.Omega.{arith}
 use borrow.Author.Needs.{needs}
-use Rattle.code.specs.Dump.{ascii}
+use Rattle.code.specs.Lists.{ascii}
 use Rattle.code.specs.Hex.{endRecord}
 use Rattle.hex.proofs.export.put_end.Statement.{statement}
 use Rattle.hex.proofs.export.put_end.Tie as tie

@@ -4,9 +4,9 @@ use Prim.Native.Nat.{ℕ, _-_, _≤_, _<_}
 use native.Mathlib.Omega.{arith}
 use borrow.Author.Needs.{needs}
 use denote.Ref.{now}
-use Rattle.code.specs.Dump.{ascii}
+use Rattle.code.specs.Lists.{ascii}
 use Rattle.code.specs.Hex.{endRecord}
-use Rattle.code.specs.HexLine.{byteAt}
+use Rattle.code.proofs.HexLines.{byteAt}
 use Rattle.code.proofs.HexLines.{end-is, not-end}
 use Rattle.hex.proofs.Inward.{one-more}
 use Rattle.hex.proofs.import.is_end.Statement.{statement}

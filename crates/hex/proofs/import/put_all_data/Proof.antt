@@ -8,7 +8,7 @@ use denote.Ref.{now}
 use lib.ListN.{length, take, drop, length-drop}
 use lib.Seq.{take-all}
 use Rattle.code.specs.Hex.{dataCount, lineEnd}
-use Rattle.code.specs.HexLine.{lineSize}
+use Rattle.code.proofs.HexLines.{lineSize}
 use Rattle.code.proofs.HexLines.{count-is, size-within}
 use Rattle.storing.proofs.Put.{put-length}
 use Rattle.hex.proofs.Checking.{DataStored, loaded-begin, loaded-shaped, loaded-room, loaded-next, loaded-end}

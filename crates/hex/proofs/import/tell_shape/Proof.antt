@@ -7,7 +7,7 @@ use borrow.Author.Needs.{needs}
 use denote.Ref.{now}
 use lib.ListN.{drop}
 use Rattle.code.specs.Hex.{spelledBytes, lineBytes, dataCount, lineEnd}
-use Rattle.code.specs.HexLine.{Shaped}
+use Rattle.code.proofs.HexLines.{Shaped}
 use Rattle.code.proofs.Tests.{clash}
 use Rattle.code.proofs.HexLines.{count-is, bytes-are, end-most, size-within, shaped-count}
 use Rattle.hex.specs.Answers.{Sums}

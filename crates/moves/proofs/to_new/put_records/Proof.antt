@@ -7,7 +7,8 @@ use borrow.Author.Needs.{needs}
 use denote.Ref.{now}
 use lib.ListN.{length}
 use Rattle.code.specs.declared.Kind.the-variants.{Old}
-use Rattle.code.specs.Dump.{recordOf, listedLayouts, taken, step, cellsOf}
+use Rattle.code.specs.Export.{recordOf}
+use Rattle.code.specs.Dump.{listedLayouts, taken, step, cellsOf}
 use Rattle.code.proofs.Walk.{step-forward}
 use Rattle.moves.specs.Kept.{saidListed, keptLayouts}
 use Rattle.moves.specs.Passes.{cellsAt}

@@ -8,7 +8,8 @@ use denote.Ref.{now}
 use lib.ListN.{length}
 use Rattle.code.specs.declared.Kind.the-variants.{New}
 use Rattle.code.specs.Lists.{Below}
-use Rattle.code.specs.Dump.{recordOf, ownLayouts, taken, step, cellsOf}
+use Rattle.code.specs.Export.{recordOf}
+use Rattle.code.specs.Dump.{ownLayouts, taken, step, cellsOf}
 use Rattle.code.specs.NewDump.{entryHead}
 use Rattle.code.proofs.Walk.{step-forward}
 use Rattle.records.specs.Source.{sourceOf}

@@ -15,6 +15,6 @@ shape-at-spec =
     (λ c. search needs)
     (λ c κs. search needs)
     -- returns
-    (λ c. shape-whole _ _ _ _ _ (c .before .frame .given .1) (c .before .before .before .before .read-layout .ensures))
+    (λ c. shape-whole _ _ _ _ _ (c .before .outline .given .1) (c .before .before .before .before .read-layout .ensures))
     -- returns-2
     (λ c. c .no-layout .ensures ∙ shape-broken _ _ _ (c .before .enum-told .given .1) (c .before .before .before .before .read-layout .ensures)))

@@ -1,6 +1,7 @@
 -- `words::bits::strip` meets its contract. Assumes nothing.
 use mathlib.Core.Path.{refl}
-use Rattle.words.proofs.Highest.{power-shifted, top-facts}
+use Rattle.binary.proofs.Shifts.{power-shifted}
+use Rattle.words.proofs.Highest.{top-facts}
 use Rattle.words.specs.Marks.{topOf}
 use lib.Pow.{pow-pos}
 use native.Mathlib.Omega.{arith}
