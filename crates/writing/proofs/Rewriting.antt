@@ -151,5 +151,5 @@ module _ {s : Shape} {h : List ℕ} (G : Granted s h) (x : ℕ) (bs : List ℕ) 
                 rw (width G (K .holds), laid-after G i x q (placed .ready) (K .holds .many)) at W′ in
                 let taken : x < getD (rangesOf s) (taker r) 0 = rw (A .takes) b in
                 let w = write-made s x bs (G .ok) sure l r field-reads (A .counted) (A .ranged) (A .unspent) (suc i) (afterIn s i x gs) taken
-                    (rw (← K .same) (placed .made)) in
+                (rw (← K .same) (placed .made)) in
                 (rw (add-one i, W .count, W .bytes) (sym (w .0)), W .bytes ∙ sym (w .1))

@@ -53,9 +53,11 @@ write-sound-spec =
     let a = l .before .before .before .before .before in
     let K = l .look-at .ensures in
     let q = g .generation-at .ensures in
-    let b = rw (ap (λ (g : Generation). g .range) q) at (i .if1 .left) in
-    (takes-it (a .pre .0) (a .args .x) _ (a .pre .2) (a .pre .1) (K .0) (aimed (g .before)) b q refl refl refl refl, K .1,
-    storable-as (a .pre .0) (a .args .x) _ (a .pre .2) (a .pre .1) (K .0) (aimed (g .before)) b q))
+    let b = rw (ap (λ (g : Generation). g .range) q) at (i .if1 .left) in (
+      takes-it (a .pre .0) (a .args .x) _ (a .pre .2) (a .pre .1) (K .0) (aimed (g .before)) b q refl refl refl refl,
+      K .1,
+      storable-as (a .pre .0) (a .args .x) _ (a .pre .2) (a .pre .1) (K .0) (aimed (g .before)) b q,
+    ))
     -- add-t27
     (λ c.
     let k = c .before .before .before .before .before .before .before .before .before .before in
