@@ -23,6 +23,7 @@ test: ## proves every crate, tries every wrong build and runs every test
 	@tests/run-all $(CALLS)
 
 wrong: ## tries the wrong builds of CRATE=.. alone, or of all crates, over what is proved of them
+	@tools/setup
 	@tools/prove check $(or $(CRATE),$(PROGRAMS) figures)
 	@tools/wrong --all $(CRATE)
 
