@@ -6,12 +6,12 @@ use mathlib.Core.Bool.{true}
 use mathlib.Core.List.{List, _++_}
 use lib.Bits.{bitOr}
 use lib.ListN.{length, replicate}
-use Rattle.code.specs.Cells.{place, wit, value, opened, size, sound, stored, turned}
+use Rattle.code.specs.Cells.{bitPlace, wit, value, opened, size, sound, stored, turned}
 use Rattle.words.specs.Words.{wordGroups, frontGroups, Tidy}
 
 -- the number that the eight wits of a byte make; and the byte that the eight bits of a number make
 unfoldable pub octet : ℕ → ℕ → ℕ
-octet order b = value (λ k. b / 2 ^ place order k % 2) 0 8
+octet order b = value (λ k. b / 2 ^ bitPlace order k % 2) 0 8
 
 -- the end of the eight bytes from byte `at` on, of n
 pub record End (n at end : ℕ) : Type 0 where

@@ -11,7 +11,7 @@ use lib.Dec.{leb}
 use Rattle.code.specs.Cells.{wit, sum, opened, size, sound, stored, ones, turned}
 use Rattle.code.specs.Code.{Code, erased, width}
 use Rattle.code.specs.Field.{Writing, refused, wrote, write}
-use Rattle.code.specs.Run.{kept, run, total, opening}
+use Rattle.code.specs.Run.{kept, run, total, openingZeros}
 use Rattle.code.proofs.Run.{accepted}
 use Rattle.code.specs.Calls.{groupsIn, readCells, storing, writeCells}
 use Rattle.code.specs.Lists.{Upto}
@@ -166,11 +166,11 @@ module _ (c : Code) where
         let k = kept-good x gs w l u refl in
         rw (stored-write x gs l u, storing-kept (c .order) (c .m) gs w) (run-stored (kept gs w) xs (k .0) (k .1))
 
-    -- Demand 3: from the blank buffer, write j + 1 of a sequence in range is accepted exactly when j + 1 less the opening zeros is at most the number of
+    -- Demand 3: from the blank buffer, write j + 1 of a sequence in range is accepted exactly when j + 1 less the openingZeros zeros is at most the number of
     -- generations.
     pub accepts-is : (xs : List ℕ) (j : ℕ) → InRange (c .first) (c .ranges) 0 xs → j < length xs →
         accepted (writeCells c (getD xs j 0) (run (triedCells c) (replicate (size (c .m) (width c)) 0) (take j xs))) ≡ leb
-        (suc j - opening (c .first) xs) (length (c .counts))
+        (suc j - openingZeros (c .first) xs) (length (c .counts))
     accepts-is xs j b l =
         let h = width c in
         let gs = run (tried c) (replicate h 0) (take j xs) in

@@ -13,7 +13,7 @@ use lib.Pow.{pow-pos}
 use lib.ListN.{length, getD, replicate, length-append, length-replicate, List·getD-eq-default}
 use lib.Seq.{ext-getD}
 use Rattle.code.specs.Lists.{Upto}
-use Rattle.code.specs.Cells.{place, wit, value, listed, sum, group, groups, opened, size, sound, witOf, byteOf, stored, ones, turned}
+use Rattle.code.specs.Cells.{bitPlace, wit, value, listed, sum, group, groups, opened, size, sound, witOf, byteOf, stored, ones, turned}
 use Rattle.code.proofs.Tests.{both-true}
 use Rattle.code.proofs.Numbers.{bit, bit-full, value-byte, value-bit, value-is, value-zero, value-none, listed-length, listed-at}
 use Rattle.code.proofs.Numbers.{sum-most, sum-difference, sum-split, sum-same}
@@ -25,8 +25,8 @@ abbrev bytesOf : ℕ → ℕ → (ℕ → ℕ) → List ℕ
 bytesOf o n f = listed (byteOf o f) 0 n
 
 -- a byte from its high bit down
-byte-is : (o : ℕ) (f : ℕ → ℕ) (i : ℕ) → byteOf o f i ≡ value (λ k. f (8 * i + place o (7 - k))) 0 8
-unfolding byteOf sum value place
+byte-is : (o : ℕ) (f : ℕ → ℕ) (i : ℕ) → byteOf o f i ≡ value (λ k. f (8 * i + bitPlace o (7 - k))) 0 8
+unfolding byteOf sum value bitPlace
 byte-is zero f i = omega arith
 byte-is (suc o) f i = omega arith
 
@@ -35,16 +35,16 @@ bytes-wit : (o n : ℕ) (f : ℕ → ℕ) (w : ℕ) → ((k : ℕ) → f k < 2) 
 unfolding wit
 bytes-wit o n f w b h =
     let i : ℕ = w / 8 in
-    let q : ℕ = place o w in
+    let q : ℕ = bitPlace o w in
     let l : q < 8 = place-lt o w in
     let p : 7 - (0 + (7 - q)) ≡ q = omega arith in
     let s : 8 * i + w % 8 ≡ w = omega arith in
     rw (listed-at (byteOf o f) 0 n i (omega arith), zero-add i, byte-is)
-    (value-bit (λ k. f (8 * i + place o (7 - k))) 0 (7 - q) q 8 (λ k. b (8 * i + place o (7 - k))) (omega arith) ∙ rw (p, place-place, s))
+    (value-bit (λ k. f (8 * i + bitPlace o (7 - k))) 0 (7 - q) q 8 (λ k. b (8 * i + bitPlace o (7 - k))) (omega arith) ∙ rw (p, place-place, s))
 
 bytes-are : (o n : ℕ) (f : ℕ → ℕ) → ((k : ℕ) → f k < 2) → Bytes (bytesOf o n f)
 bytes-are o n f b i h = rw (listed-at (byteOf o f) 0 n i (omega (arith, listed-length (byteOf o f) 0 n)), byte-is)
-    (value-byte (λ k. f (8 * (0 + i) + place o (7 - k))) 0 8 (λ k. b (8 * (0 + i) + place o (7 - k))) (omega arith))
+    (value-byte (λ k. f (8 * (0 + i) + bitPlace o (7 - k))) 0 8 (λ k. b (8 * (0 + i) + bitPlace o (7 - k))) (omega arith))
 
 pub groups-length : (m h : ℕ) (f : ℕ → ℕ) → length (groups m h f) ≡ h
 unfolding groups

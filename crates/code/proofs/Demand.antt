@@ -17,7 +17,7 @@ use Rattle.code.specs.Cells.{wit, opened, sound, stored, size, ones, tur
 use Rattle.code.specs.Deal.{written}
 use Rattle.code.specs.Code.{told}
 use Rattle.code.specs.Field.{blank, Writing, refused, wrote}
-use Rattle.code.specs.Run.{kept, run, total, opening}
+use Rattle.code.specs.Run.{kept, run, total, openingZeros}
 use Rattle.code.proofs.Run.{accepted}
 use Rattle.code.specs.Calls.{readCells, numberless, refusal, answer, passes, leaves, layoutRefusal, fieldRead, fieldWrite, left, readReply, writeRefusal, madeAt, writeReply, turnedBy, writeLeaves, generationIn}
 use Rattle.code.specs.Export.{Exporting, exportRefusal, exportLeaves}
@@ -99,7 +99,7 @@ module _ (s : Shape) (ok : layoutRefusal s 256 ≡ []) where
   -- From blank cells and for any sequence of numbers in range, each below the range of the generation that would take it if any would, the j-th write is
   -- accepted exactly when j less the zeros that open the sequence is at most t.
   pub accepted-ranged : (xs : List ℕ) (j : ℕ) → InRange (firstOf s) (rangesOf s) 0 xs → j < length xs →
-      passes (writeRefusal s (getD xs j 0) (run (writeLeaves s) (blankCells s) (take j xs))) ≡ leb (suc j - opening (firstOf s) xs) (s .t)
+      passes (writeRefusal s (getD xs j 0) (run (writeLeaves s) (blankCells s) (take j xs))) ≡ leb (suc j - openingZeros (firstOf s) xs) (s .t)
   unfolding fieldWrite widthOf
   accepted-ranged xs j r l =
       refused-not s ok (getD xs j 0) (run (writeLeaves s) (blankCells s) (take j xs))
@@ -108,7 +108,7 @@ module _ (s : Shape) (ok : layoutRefusal s 256 ≡ []) where
 
   -- of the forms that have one v: every number is below it
   pub accepted-exactly : (s .form ≡ 2 → ⊥) → (xs : List ℕ) (j : ℕ) → Below (getD (s .v) 0 0) xs → j < length xs →
-      passes (writeRefusal s (getD xs j 0) (run (writeLeaves s) (blankCells s) (take j xs))) ≡ leb (suc j - opening (firstOf s) xs) (s .t)
+      passes (writeRefusal s (getD xs j 0) (run (writeLeaves s) (blankCells s) (take j xs))) ≡ leb (suc j - openingZeros (firstOf s) xs) (s .t)
   unfolding rangesOf
   accepted-exactly one xs j b l =
       let r : InRange (firstOf s) (rangesOf s) 0 xs = rw (ne-eqb (s .form) 2 one) (equal-range (firstOf s) (s .t) (getD (s .v) 0 0) 0 xs b) in
@@ -117,13 +117,13 @@ module _ (s : Shape) (ok : layoutRefusal s 256 ≡ []) where
   -- 02, §2, of a new drive: "the j-th write is accepted exactly when j ≤ t"
   pub accepted-new : s .form ≡ 1 → (xs : List ℕ) (j : ℕ) → Below (getD (s .v) 0 0) xs → j < length xs →
       passes (writeRefusal s (getD xs j 0) (run (writeLeaves s) (blankCells s) (take j xs))) ≡ leb (suc j) (s .t)
-  unfolding opening
+  unfolding openingZeros
   accepted-new new xs j b l = accepted-exactly (λ two. omega arith) xs j b l ∙ rw (first-new s (omega arith), sub-zero)
 
   -- 02, §7, of a range for each generation: "below the range of the generation that would take it, or none would"; "exactly when j ≤ t, as in form 1"
   pub accepted-listed : s .form ≡ 2 → (xs : List ℕ) (j : ℕ) → ((k : ℕ) → k < length xs → k < s .t → getD xs k 0 < getD (rangesOf s) k 0) → j < length xs →
       passes (writeRefusal s (getD xs j 0) (run (writeLeaves s) (blankCells s) (take j xs))) ≡ leb (suc j) (s .t)
-  unfolding opening
+  unfolding openingZeros
   accepted-listed two xs j f l =
       let one = first-new s (omega arith) in
       let n = ranges-length s (bounded s ok) in

@@ -13,7 +13,7 @@ use Rattle.code.specs.Count.{choose, fewer}
 use Rattle.code.specs.Deal.{written, number}
 use Rattle.code.specs.Code.{Code, erased, width, generationAt}
 use Rattle.code.specs.Field.{zeros, reads, read, after, Writing, refused, wrote, writeAt, writeOn, write}
-use Rattle.code.specs.Run.{kept, run, total, opening}
+use Rattle.code.specs.Run.{kept, run, total, openingZeros}
 use Rattle.code.specs.Lists.{Below}
 use Rattle.code.proofs.Tests.{le-or-lt}
 use Rattle.code.proofs.Count.{fewer-grows}
@@ -94,15 +94,15 @@ unfolding tally
 tally-up first t c [] pos h l = omega arith
 tally-up first t c (x ∷ xs) pos h l = rw (next-up first t c x h, tally-up first t (min t (suc c)) xs pos (omega arith) (omega arith)) (omega arith)
 
-tally-is : (first t : ℕ) (xs : List ℕ) → 0 < t → tally first t 0 xs ≡ min t (length xs - opening first xs)
-unfolding tally opening next
+tally-is : (first t : ℕ) (xs : List ℕ) → 0 < t → tally first t 0 xs ≡ min t (length xs - openingZeros first xs)
+unfolding tally openingZeros next
 tally-is zero t [] pos = omega arith
 tally-is zero t (zero ∷ xs) pos = omega (arith, tally-is zero t xs pos)
 tally-is zero t (suc x ∷ xs) pos = rw (tally-up 0 t (min t 1) xs pos (omega arith) (omega arith)) (omega arith)
 tally-is (suc first) t xs pos = rw (tally-up (suc first) t 0 xs pos (omega arith) (omega arith)) (omega arith)
 
-opening-take : (first : ℕ) (xs : List ℕ) (j : ℕ) → opening first (take j xs) ≡ min j (opening first xs)
-unfolding opening
+opening-take : (first : ℕ) (xs : List ℕ) (j : ℕ) → openingZeros first (take j xs) ≡ min j (openingZeros first xs)
+unfolding openingZeros
 opening-take zero [] zero = omega arith
 opening-take zero [] (suc j) = omega arith
 opening-take zero (x ∷ xs) zero = omega arith
@@ -134,7 +134,7 @@ equal-range first t v c (x ∷ xs) u = (
       xs (u .1),
 )
 
--- and those of a sequence from blank cells that has no opening zeros: generation k + 1 would take the number at place k
+-- and those of a sequence from blank cells that has no openingZeros zeros: generation k + 1 would take the number at place k
 pub listed-range : (vs : List ℕ) (c : ℕ) (xs : List ℕ) → c ≤ length vs → ((k : ℕ) → k < length xs → c + k < length vs → getD xs k 0 < getD vs (c + k) 0) →
     InRange 1 vs c xs
 unfolding InRange
@@ -188,7 +188,7 @@ module _ (code : Code) where
   spent x c gs k h = stands-write x c gs (k .stands) ∙ rw (le-ltb c (length (code .counts)) h)
 
 module _ (code : Code) (y : Layout code) where
-  -- generation 1 leaves the cells blank exactly where the number is one of the opening zeros
+  -- generation 1 leaves the cells blank exactly where the number is one of the openingZeros zeros
   after-stands : (first c x : ℕ) (gs gs′ : List ℕ) → code .first ≡ first → c < length (code .counts) → After code c x gs gs′ →
       Stands code (next first (length (code .counts)) c x) gs′
   unfolding next
@@ -237,10 +237,10 @@ module _ (code : Code) (y : Layout code) where
       let r′ : (c < length (code .counts) → x < generationAt code c .range) × InRange (code .first) (code .ranges) (next (code .first) (length (code .counts)) c x) xs = rw same-length at r in
       run-held (next (code .first) (length (code .counts)) c x) (kept gs (write code x gs)) xs (step c x gs k (r′ .0)) (r′ .1)
 
-  -- Demand 3. The write at place j of a sequence from blank cells, which is write j + 1, is accepted exactly when j + 1 less the opening zeros is at most the
+  -- Demand 3. The write at place j of a sequence from blank cells, which is write j + 1, is accepted exactly when j + 1 less the openingZeros zeros is at most the
   -- number of generations.
   pub accepts : (xs : List ℕ) (j : ℕ) → InRange (code .first) (code .ranges) 0 xs → j < length xs →
-      accepted (write code (getD xs j 0) (run (tried code) (replicate (width code) 0) (take j xs))) ≡ leb (suc j - opening (code .first) xs)
+      accepted (write code (getD xs j 0) (run (tried code) (replicate (width code) 0) (take j xs))) ≡ leb (suc j - openingZeros (code .first) xs)
       (length (code .counts))
   unfolding accepted
   accepts xs j r l =
@@ -249,9 +249,9 @@ module _ (code : Code) (y : Layout code) where
       let gs = run (tried code) (replicate (width code) 0) (take j xs) in
       let i : InRange (code .first) (code .ranges) 0 (take j xs) × (c < length (code .counts) → getD xs j 0 < generationAt code c .range) = rw same-length at (in-range-at (code .first) (code .ranges) 0 xs j r l) in
       let k = run-held 0 (replicate (width code) 0) (take j xs) (blank-held code) (i .0) in
-      let n : c ≡ min (length (code .counts)) (min j (length xs) - min j (opening (code .first) xs)) =
+      let n : c ≡ min (length (code .counts)) (min j (length xs) - min j (openingZeros (code .first) xs)) =
       rw (tally-is (code .first) (length (code .counts)) (take j xs) (omega arith), length-take, opening-take) in
-      elim (le-or-lt (suc j - opening (code .first) xs) (length (code .counts))) [
-        | inl g ↦ rw (le-leb (suc j - opening (code .first) xs) (length (code .counts)) g, taken c (getD xs j 0) gs k (omega arith) (i .1 (omega arith)) .0)
-        | inr g ↦ rw (lt-leb (suc j - opening (code .first) xs) (length (code .counts)) g, spent code (getD xs j 0) c gs k (omega arith))
+      elim (le-or-lt (suc j - openingZeros (code .first) xs) (length (code .counts))) [
+        | inl g ↦ rw (le-leb (suc j - openingZeros (code .first) xs) (length (code .counts)) g, taken c (getD xs j 0) gs k (omega arith) (i .1 (omega arith)) .0)
+        | inr g ↦ rw (lt-leb (suc j - openingZeros (code .first) xs) (length (code .counts)) g, spent code (getD xs j 0) c gs k (omega arith))
       ]

@@ -7,29 +7,29 @@ use native.Mathlib.Omega.{arith}
 use native.Mathlib.Nat.{zero-div, mod-eq-of-lt}
 use lib.ListN.{length, getD, List·getD-eq-default, List·getD-append}
 use lib.Seq.{ext-getD, getD-append-add}
-use Rattle.code.specs.Cells.{place, wit}
+use Rattle.code.specs.Cells.{bitPlace, wit}
 use Rattle.code.proofs.Tests.{le-or-lt}
 use Rattle.code.proofs.Numbers.{bit-lt, bits-ext}
 
-pub place-lt : (o w : ℕ) → place o w < 8
-unfolding place
+pub place-lt : (o w : ℕ) → bitPlace o w < 8
+unfolding bitPlace
 place-lt zero w = omega arith
 place-lt (suc o) w = omega arith
 
 -- the place of a place is the wit again, and a whole byte changes nothing
-pub place-place : (o w : ℕ) → place o (place o w) ≡ w % 8
-unfolding place
+pub place-place : (o w : ℕ) → bitPlace o (bitPlace o w) ≡ w % 8
+unfolding bitPlace
 place-place zero w = omega arith
 place-place (suc o) w = omega arith
 
-pub place-byte : (o i w : ℕ) → place o (8 * i + w) ≡ place o w
-unfolding place
+pub place-byte : (o i w : ℕ) → bitPlace o (8 * i + w) ≡ bitPlace o w
+unfolding bitPlace
 place-byte zero i w = omega arith
 place-byte (suc o) i w = omega arith
 
 pub wit-lt : (o : ℕ) (bs : List ℕ) (w : ℕ) → wit o bs w < 2
 unfolding wit
-wit-lt o bs w = bit-lt (place o w) (getD bs (w / 8) 0)
+wit-lt o bs w = bit-lt (bitPlace o w) (getD bs (w / 8) 0)
 
 pub wit-past : (o : ℕ) (bs : List ℕ) (w : ℕ) → 8 * length bs ≤ w → wit o bs w ≡ 0
 unfolding wit
@@ -69,9 +69,9 @@ pub wit-ext : (o : ℕ) (xs ys : List ℕ) → length xs ≡ length ys → Bytes
 unfolding wit
 wit-ext o xs ys n hx hy e = ext-getD 0 xs ys n
     (λ i h. bits-ext 8 (getD xs i 0) (getD ys i 0) (hx i h) (hy i (omega arith)) (λ q hq.
-    let w : ℕ = 8 * i + place o q in
-    let b : place o q < 8 = place-lt o q in
+    let w : ℕ = 8 * i + bitPlace o q in
+    let b : bitPlace o q < 8 = place-lt o q in
     let s : w / 8 ≡ i = omega arith in
-    let p : place o w ≡ q = place-byte o i (place o q) ∙ place-place o q ∙ mod-eq-of-lt hq in
-    let t : getD xs (w / 8) 0 / 2 ^ place o w % 2 ≡ getD ys (w / 8) 0 / 2 ^ place o w % 2 = e w (omega arith) in
+    let p : bitPlace o w ≡ q = place-byte o i (bitPlace o q) ∙ place-place o q ∙ mod-eq-of-lt hq in
+    let t : getD xs (w / 8) 0 / 2 ^ bitPlace o w % 2 ≡ getD ys (w / 8) 0 / 2 ^ bitPlace o w % 2 = e w (omega arith) in
     rw (s, p) at t))

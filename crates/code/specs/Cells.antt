@@ -6,13 +6,13 @@ use lib.Dec.{eqb}
 use lib.ListN.{length, getD}
 
 -- "Wit w is bit 7 − (w mod 8)": order 0, the high bit first; order 1 is the low bit first
-unfoldable pub place : ℕ → ℕ → ℕ
-place zero w = 7 - w % 8
-place (suc order) w = w % 8
+unfoldable pub bitPlace : ℕ → ℕ → ℕ
+bitPlace zero w = 7 - w % 8
+bitPlace (suc order) w = w % 8
 
 -- "of byte w div 8"
 unfoldable pub wit : ℕ → List ℕ → ℕ → ℕ
-wit order bytes w = getD bytes (w / 8) 0 / 2 ^ place order w % 2
+wit order bytes w = getD bytes (w / 8) 0 / 2 ^ bitPlace order w % 2
 
 -- "the first is the high bit of the group's value": the number that the n wits from w on make
 unfoldable pub value : (ℕ → ℕ) → ℕ → ℕ → ℕ
@@ -55,7 +55,7 @@ witOf m gs w = getD gs (w / m) 0 / 2 ^ (m - 1 - w % m) % 2
 
 -- "Wit w is bit 7 − (w mod 8) of byte w div 8", backwards: byte i of wits
 unfoldable pub byteOf : ℕ → (ℕ → ℕ) → ℕ → ℕ
-byteOf order f i = sum (λ k. f (8 * i + k) * 2 ^ place order k) 8
+byteOf order f i = sum (λ k. f (8 * i + k) * 2 ^ bitPlace order k) 8
 
 -- 01, Cells in bytes; RULES 3: the buffer of groups
 unfoldable pub stored : ℕ → ℕ → List ℕ → List ℕ

@@ -19,8 +19,8 @@ total counts leaves cells [] = 0
 total counts leaves cells (x ∷ xs) = counts x cells + total counts leaves (leaves x cells) xs
 
 -- Demand 3; RULES 14: "the zeros that open the sequence", which leave the cells blank where generation 1 may write no place
-unfoldable pub opening : ℕ → List ℕ → ℕ
-opening zero [] = 0
-opening zero (zero ∷ xs) = suc (opening zero xs)
-opening zero (suc x ∷ xs) = 0
-opening (suc first) xs = 0
+unfoldable pub openingZeros : ℕ → List ℕ → ℕ
+openingZeros zero [] = 0
+openingZeros zero (zero ∷ xs) = suc (openingZeros zero xs)
+openingZeros zero (suc x ∷ xs) = 0
+openingZeros (suc first) xs = 0

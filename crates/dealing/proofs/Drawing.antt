@@ -29,15 +29,15 @@ set-front : (l : List ℕ) (j v : ℕ) → j < length l → drop j (set l j v) �
 set-front l j v h = rw (set-split l j v h) (drop-at (take j l) (v ∷ drop (suc j) l) j (length-take-le j l (omega arith)))
 
 -- the last digits of x stand in the places from i on, and y is what is left of it
-pub record Placed (e x : ℕ) (l : List ℕ) (i y : ℕ) : Type 0 where
+pub record Spelled (e x : ℕ) (l : List ℕ) (i y : ℕ) : Type 0 where
   pub to : i ≤ length l
   pub small : Upto (e - 1) (drop i l)
   pub whole : plainFrom e (drop i l) y ≡ x
 
-pub place-begin : (e x : ℕ) (l : List ℕ) → Placed e x l (length l) x
+pub place-begin : (e x : ℕ) (l : List ℕ) → Spelled e x l (length l) x
 place-begin e x l = record { to = le-refl _; small = rw (drop-length l) tt; whole = plain-end e l (length l) x refl }
 
-place-turn : (e x : ℕ) (l : List ℕ) (i y : ℕ) → 0 < e → 0 < i → Placed e x l i y → Placed e x (set l (i - 1) (y % e)) (i - 1) (y / e)
+place-turn : (e x : ℕ) (l : List ℕ) (i y : ℕ) → 0 < e → 0 < i → Spelled e x l i y → Spelled e x (set l (i - 1) (y % e)) (i - 1) (y / e)
 place-turn e x l zero y pos h P = absurd (omega arith)
 place-turn e x l (suc j) y pos h P =
     let u : suc j - 1 ≡ j = omega arith in
@@ -49,8 +49,8 @@ place-turn e x l (suc j) y pos h P =
     })
 
 -- two digits at once
-place-two : (e x : ℕ) (l : List ℕ) (i y : ℕ) → 0 < e → Placed e x l (i + 2) y →
-    Placed e x (set (set l (i + 1) (y % (e * e) % e)) i (y % (e * e) / e)) i (y / (e * e))
+place-two : (e x : ℕ) (l : List ℕ) (i y : ℕ) → 0 < e → Spelled e x l (i + 2) y →
+    Spelled e x (set (set l (i + 1) (y % (e * e) % e)) i (y % (e * e) / e)) i (y / (e * e))
 place-two e x l i y pos P =
     let low = mod-lt y pos in
     let u : i + 2 - 1 ≡ i + 1 = omega arith in
@@ -59,27 +59,27 @@ place-two e x l i y pos P =
     rw (mod-mul y pos pos, digits-div (y / e % e) low, digits-mod (y / e % e) low, ← div-div-eq-div-mul y e e)
     (rw v at (place-turn e x (set l (i + 1) (y % e)) (i + 1) (y / e) pos (omega arith) one))
 
-place-end : (e x : ℕ) (l : List ℕ) (y : ℕ) → 0 < e → x < e ^ length l → Placed e x l 0 y → l ≡ plainly e (length l) x
+place-end : (e x : ℕ) (l : List ℕ) (y : ℕ) → 0 < e → x < e ^ length l → Spelled e x l 0 y → l ≡ plainly e (length l) x
 place-end e x l zero pos h P = let q : plain e l ≡ x = omega (arith, P .whole) in sym (rw q at (plainly-back e l pos (P .small)))
 place-end e x l (suc y) pos h P = absurd (omega (arith, P .whole))
 
 -- the same in the first s places of an array
 module _ (e x s : ℕ) (l : List ℕ) (pos : 0 < e) (h : s ≤ length l) where
-  pub fill-two : (i y : ℕ) → 1 < i → Placed e x (take s l) i y →
-      Placed e x (take s (set (set l (i - 2 + 1) (y % (e * e) % e)) (i - 2) (y % (e * e) / e))) (i - 2) (y / (e * e))
+  pub fill-two : (i y : ℕ) → 1 < i → Spelled e x (take s l) i y →
+      Spelled e x (take s (set (set l (i - 2 + 1) (y % (e * e) % e)) (i - 2) (y % (e * e) / e))) (i - 2) (y / (e * e))
   fill-two i y more P =
       let u : i ≡ i - 2 + 2 = omega arith in
       let g : i ≤ s = omega (arith, P .to, length-take-le s l h) in
       let z : ℕ = y % (e * e) in
       rw (take-set-lt s (set l (i - 2 + 1) (z % e)) (i - 2) (z / e) (omega arith), take-set-lt s l (i - 2 + 1) (z % e) (omega arith))
-      (place-two e x (take s l) (i - 2) y pos (subst (λ (n : ℕ). Placed e x (take s l) n y) u P))
+      (place-two e x (take s l) (i - 2) y pos (subst (λ (n : ℕ). Spelled e x (take s l) n y) u P))
 
-  pub fill-one : (y : ℕ) → Placed e x (take s l) 1 y → Placed e x (take s (set l 0 (y % e))) 0 (y / e)
+  pub fill-one : (y : ℕ) → Spelled e x (take s l) 1 y → Spelled e x (take s (set l 0 (y % e))) 0 (y / e)
   fill-one y P =
       let g : 0 < s = omega (arith, P .to, length-take-le s l h) in
       rw (take-set-lt s l 0 (y % e) g) (place-turn e x (take s l) 1 y pos (omega arith) P)
 
-  pub fill-end : (y : ℕ) → x < e ^ s → Placed e x (take s l) 0 y → take s l ≡ plainly e s x
+  pub fill-end : (y : ℕ) → x < e ^ s → Spelled e x (take s l) 0 y → take s l ≡ plainly e s x
   fill-end y small P = let n = length-take-le s l h in rw n at (place-end e x (take s l) y pos (rw n small) P)
 
 -- the quotient by d as a product with the part that d is of w

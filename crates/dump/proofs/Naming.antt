@@ -16,7 +16,7 @@ use Rattle.code.specs.NewDump.{listedAs, listedBehind, listedReply, listedField
 use Rattle.code.proofs.Tests.{clash}
 use Rattle.records.specs.Source.{layoutsAt, sourceOf}
 use Rattle.dump.specs.Answers.{haltNumber, haltCarries, openedOf, Opens}
-use Rattle.dump.specs.Listed.{listedOf}
+use Rattle.dump.specs.Listed.{listedNumbersOf}
 use Rattle.dump.specs.declared.Halt.{Halt}
 use Rattle.dump.specs.declared.Opened.{Opened}
 use Rattle.dump.specs.declared.Opened.the-variants.{Records, Barred}
@@ -36,7 +36,7 @@ module _ (ls : List Listed) (number : ℕ) where
   listed-none h = rw (le-leb (length ls) number h)
 
   pub listed-some : (s : Shape) → number < length ls → s ≡ listedShape (getD ls number unlisted) →
-      listedOf (record { refusal = 0; shape = s }) ≡ filled listedFields (listedAs ls number)
+      listedNumbersOf (record { refusal = 0; shape = s }) ≡ filled listedFields (listedAs ls number)
   unfolding listedAs listedShape filled refusal answer
   listed-some s h e =
       let l : Listed = getD ls number unlisted in

@@ -20,7 +20,7 @@ use Rattle.dump.specs.declared.Opened.the-variants.{Records, Barred}
 use Rattle.dump.specs.declared.Step.{Step}
 use Rattle.dump.specs.declared.Step.the-variants.{Record, End, Stop}
 use Rattle.dump.specs.declared.listed.ListedShape.{ListedShape}
-use Rattle.dump.specs.Listed.{listedOf}
+use Rattle.dump.specs.Listed.{listedNumbersOf}
 
 same-halt : (h h′ : Halt) → haltOf h ≡ haltOf h′ → h ≡ h′
 same-halt (Malformed offset) (Malformed offset′) q =
@@ -86,7 +86,7 @@ listedWith xs =
     record { refusal = getD xs 0 0; shape = record { form = getD xs 1 0; m = getD xs 2 0; t = getD xs 3 0; count = getD xs 4 0; v = drop 5 xs } }
 
 pub unique-listed-shape : (bytes : List ℕ) (number : ℕ) (r r′ : ListedShape) →
-    listedOf r ≡ filled listedFields (listedReply bytes number) → listedOf r′ ≡ filled listedFields (listedReply bytes number) → r ≡ r′
+    listedNumbersOf r ≡ filled listedFields (listedReply bytes number) → listedNumbersOf r′ ≡ filled listedFields (listedReply bytes number) → r ≡ r′
 unique-listed-shape bytes number r r′ p q = ap listedWith (p ∙ sym q)
 
 pub unique-step : (bytes : List ℕ) (at : ℕ) (r r′ : Step) → stepOf r ≡ stepReply Old bytes at → stepOf r′ ≡ stepReply Old bytes at → r ≡ r′

@@ -23,7 +23,7 @@ use Rattle.records.proofs.Laws.{layouts-many}
 use Rattle.records.specs.List.{listOf, ListRead}
 use Rattle.records.specs.declared.list.LayoutList.{LayoutList}
 use Rattle.records.specs.declared.list.LayoutList.the-variants.{Whole, Broken}
-use Rattle.dump.specs.Answers.{dumpMost, haltNumber, haltCarries, openedOf, openedReply, Opens, Ready, toldNumbers, stepOf}
+use Rattle.dump.specs.Answers.{dumpMost, haltNumber, haltCarries, openedOf, openedReply, Opens, Walkable, toldNumbers, stepOf}
 use Rattle.dump.specs.declared.Record as Declared
 use Rattle.dump.specs.declared.Halt.{Halt}
 use Rattle.dump.specs.declared.Halt.the-variants.{Malformed, Oversize}
@@ -64,7 +64,7 @@ long-barred kind bytes places h long = record { opens = sym (open-oversize kind 
 
 -- a dump whose opening is told
 module _ {kind : Kind} {bytes places : List ℕ} {r : Opened} (o : Opens kind bytes places r) where
-  pub opened-ready : {start count : ℕ} → r ≡ Records start count → Ready kind bytes (take count places)
+  pub opened-ready : {start count : ℕ} → r ≡ Records start count → Walkable kind bytes (take count places)
   opened-ready {start} e = record { start = start; opens = sym (o .opens) ∙ ap (openedOf kind bytes places) e }
 
   pub opened-few : {start count : ℕ} → r ≡ Records start count → count ≤ length places
@@ -110,7 +110,7 @@ places-few Old bytes places h = omega arith
 places-few New bytes places h = omega (arith, layouts-many bytes places)
 
 -- in a dump that is opened a step stands at the end or at a record
-module _ {kind : Kind} {bytes places : List ℕ} (ready : Ready kind bytes places) (at : ℕ) where
+module _ {kind : Kind} {bytes places : List ℕ} (ready : Walkable kind bytes places) (at : ℕ) where
   pub ready-ended : length bytes ≤ at → step kind bytes at ≡ ended
   ready-ended h = step-entered kind bytes at _ _ (ready .opens) ∙ step-ended _ bytes at h
 

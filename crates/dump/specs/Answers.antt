@@ -50,7 +50,7 @@ pub record Opens (kind : Kind) (bytes places : List ℕ) (r : Opened) : Type 0 w
   pub long : length places ≡ 64
 
 -- RULES 8, 9: the records of a dump can be walked, its layouts being kept by their places
-pub record Ready (kind : Kind) (bytes places : List ℕ) : Type 0 where
+pub record Walkable (kind : Kind) (bytes places : List ℕ) : Type 0 where
   pub start : ℕ
   pub opens : Code.opening kind bytes ≡ Code.entered (sourceOf kind bytes places) start
 

@@ -3,5 +3,5 @@ use Prim.Native.Nat.{ℕ}
 use mathlib.Core.List.{List, _∷_}
 use Rattle.dump.specs.declared.listed.ListedShape.{ListedShape}
 
-abbrev pub listedOf : ListedShape → List ℕ
-listedOf r = r .refusal ∷ r .shape .form ∷ r .shape .m ∷ r .shape .t ∷ r .shape .count ∷ r .shape .v
+abbrev pub listedNumbersOf : ListedShape → List ℕ
+listedNumbersOf r = r .refusal ∷ r .shape .form ∷ r .shape .m ∷ r .shape .t ∷ r .shape .count ∷ r .shape .v

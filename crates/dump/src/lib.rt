@@ -22,7 +22,7 @@ ghost use Rattle.layout.specs.Plan.{Planned};
 ghost use Rattle.records.specs.Source.{sourceOf};
 ghost use Rattle.records.specs.Head.{saidShape, headRecord};
 ghost use Rattle.dump.specs.Kept.{Keeps};
-ghost use Rattle.dump.specs.Answers.{haltNumber, haltCarries, openedReply, locatedOf, toldNumbers, stepOf, Opens, Ready};
+ghost use Rattle.dump.specs.Answers.{haltNumber, haltCarries, openedReply, locatedOf, toldNumbers, stepOf, Opens, Walkable};
 
 // The most bytes of a dump.
 pub const DUMP_MOST: usize = 65536;
@@ -135,7 +135,7 @@ pub enum Located {
 }
 
 pub fn locate(dump: &[u8], kind: Kind, places: &[u16], at: usize) -> Located
-    requires { ⌜ Ready kind (now dump) (now places) ⌝ }
+    requires { ⌜ Walkable kind (now dump) (now places) ⌝ }
     ensures { λ r. ⌜ locatedOf (sourceOf kind (now (dump .entry)) (now (places .entry))) r ≡ step kind (now (dump .entry)) at ⌝ }
 {
     if dump.len() <= at {
@@ -180,7 +180,7 @@ fn step_planned(dump: &[u8], plan: Plan, v: &[u64; 16], h: &[u64; 16], head: Hea
 
 // The step at a place of a dump that is opened.
 fn step_in(dump: &[u8], kind: Kind, places: &[u16], at: usize) -> Step
-    requires { ⌜ Ready kind (now dump) (now places) ⌝ }
+    requires { ⌜ Walkable kind (now dump) (now places) ⌝ }
     ensures { λ r. ⌜ stepOf r ≡ stepReply kind (now (dump .entry)) at ⌝ }
 {
     match locate(dump, kind, places, at) {
@@ -241,7 +241,7 @@ pub fn step_kept(
     h: &mut [u64; 16],
     kept: Kept,
 ) -> Stepped
-    requires { ⌜ Ready kind (now dump) (now places) × Keeps (sourceOf kind (now dump) (now places)) kept (now v) (now h) ⌝ }
+    requires { ⌜ Walkable kind (now dump) (now places) × Keeps (sourceOf kind (now dump) (now places)) kept (now v) (now h) ⌝ }
     ensures { λ r. ⌜ stepOf (r .step) ≡ stepReply kind (now (dump .entry)) at ⌝ }
     ensures { λ r. ⌜ Keeps (sourceOf kind (now (dump .entry)) (now (places .entry))) (r .kept) (now (v .exit)) (now (h .exit)) ⌝ }
 {

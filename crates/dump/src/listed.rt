@@ -10,7 +10,7 @@ ghost use lib.ListN.{length, replicate};
 ghost use Rattle.code.specs.Calls.{filled};
 ghost use Rattle.code.specs.NewDump.{listedAs, listedReply, listedFields};
 ghost use Rattle.records.specs.Source.{layoutsAt};
-ghost use Rattle.dump.specs.Listed.{listedOf};
+ghost use Rattle.dump.specs.Listed.{listedNumbersOf};
 
 // A listed layout. Refused, all its numbers are 0.
 #[repr(C)]
@@ -20,7 +20,7 @@ pub struct ListedShape {
 }
 
 fn refuse(refusal: u64) -> ListedShape
-    ensures { λ r. ⌜ listedOf r ≡ refusal ∷ replicate 20 0 ⌝ }
+    ensures { λ r. ⌜ listedNumbersOf r ≡ refusal ∷ replicate 20 0 ⌝ }
 {
     let shape = Shape {
         form: 0,
@@ -34,7 +34,7 @@ fn refuse(refusal: u64) -> ListedShape
 
 // The layout that has a number in a list that is opened.
 fn listed_in(dump: &[u8], places: &[u16], number: u64) -> ListedShape
-    ensures { λ r. ⌜ listedOf r ≡ filled listedFields (listedAs (layoutsAt (now (dump .entry)) (now (places .entry))) number) ⌝ }
+    ensures { λ r. ⌜ listedNumbersOf r ≡ filled listedFields (listedAs (layoutsAt (now (dump .entry)) (now (places .entry))) number) ⌝ }
 {
     if places.len() as u64 <= number {
         return refuse(refusals::BOUNDS);
@@ -45,7 +45,7 @@ fn listed_in(dump: &[u8], places: &[u16], number: u64) -> ListedShape
 
 // The layout that has a number in the list of a new dump.
 pub fn listed_shape(dump: &[u8], number: u64) -> ListedShape
-    ensures { λ r. ⌜ listedOf r ≡ filled listedFields (listedReply (now (dump .entry)) number) ⌝ }
+    ensures { λ r. ⌜ listedNumbersOf r ≡ filled listedFields (listedReply (now (dump .entry)) number) ⌝ }
 {
     let mut places = [0u16; LAYOUTS_MOST];
     match crate::open(dump, Kind::New, &mut places) {

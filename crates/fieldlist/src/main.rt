@@ -12,7 +12,7 @@ ghost use Prim.Native.Nat.{_≤_};
 ghost use lib.ListN.{length};
 ghost use Rattle.code.specs.Dump.{barred, opening, startOf};
 ghost use Rattle.code.specs.Listing.{listing};
-ghost use Rattle.dump.specs.Answers.{dumpMost, haltNumber, haltCarries, Ready};
+ghost use Rattle.dump.specs.Answers.{dumpMost, haltNumber, haltCarries, Walkable};
 ghost use Rattle.fieldlist.specs.Handing.{Part};
 
 // A byte more than a dump may have, so that one that is too long shows.
@@ -77,7 +77,7 @@ fn list_halt(dump: &[u8], kind: Kind, halt: Halt) -> Handed
 
 // Hands out the text of a dump that is opened, piece by piece.
 fn list_records(dump: &[u8], kind: Kind, places: &[u16], start: usize) -> Handed
-    requires { ⌜ Ready kind (now dump) (now places) × (start ≡ startOf (opening kind (now dump))) × (start ≤ dumpMost) ⌝ }
+    requires { ⌜ Walkable kind (now dump) (now places) × (start ≡ startOf (opening kind (now dump))) × (start ≤ dumpMost) ⌝ }
     ensures { λ r. ⌜ (r .whole ≡ true → r .count ≡ length (listing kind (now (dump .entry)))) ⌝ }
 {
     let mut out = [0u8; PIECE_MOST];

@@ -18,7 +18,7 @@ ghost use Rattle.code.specs.Dump.{openReply, stepReply, walkReply, walkLeaves};
 ghost use Rattle.code.specs.NewDump.{layoutExportReply, layoutExportLeaves, listedReply, listedFields, toNewReply, toNewLeaves, toOldReply, toOldLeaves};
 ghost use Rattle.code.specs.Hex.{hexExportReply, hexExportLeaves, hexImportReply, hexImportLeaves};
 ghost use Rattle.dump.specs.Answers.{haltOf, openedReply, stepOf};
-ghost use Rattle.dump.specs.Listed.{listedOf};
+ghost use Rattle.dump.specs.Listed.{listedNumbersOf};
 ghost use Rattle.walking.specs.Answers.{walkedOf};
 ghost use Rattle.moves.specs.Answers.{movedOf};
 ghost use Rattle.storing.specs.Answers.{madeOf};
@@ -270,7 +270,7 @@ pub extern "C" fn gorvlime_open_new(bytes: &[u8]) -> OpenAnswer
 
 #[no_mangle]
 pub extern "C" fn gorvlime_listed_shape(bytes: &[u8], number: u64) -> dump::listed::ListedShape
-    ensures { λ r. ⌜ listedOf r ≡ filled listedFields (listedReply (now (bytes .entry)) number) ⌝ }
+    ensures { λ r. ⌜ listedNumbersOf r ≡ filled listedFields (listedReply (now (bytes .entry)) number) ⌝ }
 {
     crate::listed_shape(bytes, number)
 }

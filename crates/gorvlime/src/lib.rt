@@ -27,7 +27,7 @@ ghost use Rattle.reading.specs.Answers.{readingOf};
 ghost use Rattle.writing.specs.Answers.{writingOf};
 ghost use Rattle.many.specs.Answers.{manyOf};
 ghost use Rattle.dump.specs.Answers.{openedReply, stepOf};
-ghost use Rattle.dump.specs.Listed.{listedOf};
+ghost use Rattle.dump.specs.Listed.{listedNumbersOf};
 ghost use Rattle.walking.specs.Answers.{walkedOf};
 ghost use Rattle.moves.specs.Answers.{movedOf};
 ghost use Rattle.storing.specs.Answers.{madeOf};
@@ -102,7 +102,7 @@ pub fn open_new(bytes: &[u8]) -> Opened
 
 // The layout that has a number in the list of a new dump, with all its ranges.
 pub fn listed_shape(bytes: &[u8], number: u64) -> ListedShape
-    ensures { λ r. ⌜ listedOf r ≡ filled listedFields (listedReply (now (bytes .entry)) number) ⌝ }
+    ensures { λ r. ⌜ listedNumbersOf r ≡ filled listedFields (listedReply (now (bytes .entry)) number) ⌝ }
 {
     dump::listed::listed_shape(bytes, number)
 }

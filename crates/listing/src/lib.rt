@@ -11,7 +11,7 @@ ghost use Rattle.code.specs.Dump.{stepReply};
 ghost use Rattle.code.specs.Listing.{recordLine};
 ghost use Rattle.reading.specs.Answers.{readingOf};
 ghost use Rattle.text.specs.Within.{PutWithin};
-ghost use Rattle.dump.specs.Answers.{dumpMost, Ready, stepOf};
+ghost use Rattle.dump.specs.Answers.{dumpMost, Walkable, stepOf};
 ghost use Rattle.listing.specs.Listing.{linesMost, Refusing, haltLines, Standing, GoesOn, Closed, LinesTold, Fills};
 
 // The most bytes that a step's lines take.
@@ -121,7 +121,7 @@ fn tell_step(dump: &[u8], kind: Kind, s: Listing, step: Step, out: &mut [u8], at
 
 // Tells the next lines, as many as surely fit.
 pub fn fill(dump: &[u8], kind: Kind, places: &[u16], start: Listing, out: &mut [u8]) -> Told
-    requires { ⌜ Ready kind (now dump) (now places) × Standing start × (start .over ≡ false) × (linesMost ≤ length (now out)) ⌝ }
+    requires { ⌜ Walkable kind (now dump) (now places) × Standing start × (start .over ≡ false) × (linesMost ≤ length (now out)) ⌝ }
     ensures { λ r. ⌜ Fills kind (now (dump .entry)) start (now (out .exit)) r ⌝ }
 {
     let mut s = start;

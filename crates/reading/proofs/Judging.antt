@@ -35,7 +35,7 @@ use Rattle.code.proofs.LayoutCall.{range-within, counts-near, first-form}
 use Rattle.code.proofs.ReadCall.{read-no-layout, read-unsound, read-none, read-miscounted, read-beyond, read-found}
 use Rattle.counting.specs.Cap.{sat}
 use Rattle.words.specs.Words.{wordGroups, frontGroups, frontAt}
-use Rattle.words.specs.Marks.{Viewed, Fronted, Listed, Gathered, Pickable}
+use Rattle.words.specs.Marks.{Viewed, Fronted, ListedValues, Gathered, Pickable}
 use Rattle.words.specs.declared.Seen.{Seen}
 use Rattle.words.proofs.Joined.{seen-pickable, front-pickable}
 use Rattle.cells.specs.Cells.{Loadable, Loaded}
@@ -54,7 +54,7 @@ pattern-told b fewest s xs at less k r G l q =
 pub gathered-few : {xs at less : List ℕ} {k s : ℕ} → Gathered xs at less k → s ≡ length xs → k ≤ s
 gathered-few {xs} G l = omega (arith, G .chosen .count, l, written-le xs)
 
-pub digits-told : (e : ℕ) (xs vs : List ℕ) (k r : ℕ) → Listed xs vs k → r ≡ sat (plain e (take k vs)) → r ≡ sat (plain e xs)
+pub digits-told : (e : ℕ) (xs vs : List ℕ) (k r : ℕ) → ListedValues xs vs k → r ≡ sat (plain e (take k vs)) → r ≡ sat (plain e xs)
 digits-told e xs vs k r L q = rw (← L .made) q
 
 -- the two ways to deal
@@ -107,14 +107,14 @@ module _ {s : Shape} {h : List ℕ} (G : Granted s h) (i : ℕ) (l : i < s .t) (
       far h = elim (le-or-lt (2 ^ 56) x) [ inl k ↦ omega (arith, CC .large k, high) | inr k ↦ omega (arith, CC .exact k) ]
 
 -- the marked groups of the words are the places of the generation at place i
-pub record Placed (s : Shape) (n i : ℕ) (words marks : List ℕ) : Type 0 where
+pub record PlacesMarked (s : Shape) (n i : ℕ) (words marks : List ℕ) : Type 0 where
   pub pick : Pickable (s .m) n words marks
   pub many : length (frontAt (s .m) n marks words) ≡ getD (countsOf s) i 0
   pub blank : getD (countsOf s) (suc i) 0 ≤ Field.zeros (frontAt (s .m) n marks words)
   pub held : Field.carriers (2 ^ s .m - 1) i (fieldGroups s n words) ≡ frontAt (s .m) n marks words
 
 -- they may be told
-pub tellable : {s : Shape} {h : List ℕ} → Granted s h → {n i : ℕ} {words marks : List ℕ} → Placed s n i words marks → (g : Generation) →
+pub tellable : {s : Shape} {h : List ℕ} → Granted s h → {n i : ℕ} {words marks : List ℕ} → PlacesMarked s n i words marks → (g : Generation) →
     g ≡ generationAt (codeOf s) i → Tellable (s .m) g (frontAt (s .m) n marks words)
 tellable {s} G {n} {i} P g q = rw q (record {
   many = sym (P .many);
@@ -191,7 +191,7 @@ module _ {s : Shape} {h : List ℕ} (G : Granted s h) {n : ℕ} {words : List �
             (sym (judged-miscounted (codeOf s) (fieldGroups s n words) (frontAt (s .m) n marks words) i carried
             (λ q. wrong (many ∙ q ∙ sym (G .each i))))))
 
-        later-placed : seen .unerased ≡ getD h i 0 → Placed s n i words marks
+        later-placed : seen .unerased ≡ getD h i 0 → PlacesMarked s n i words marks
         later-placed right = record {
           pick = seen-pickable (s .m) n words marks (G .bounds .m-low) (G .bounds .m-high) (H .ends .few) (H .long) seen W (omega (arith, right, G .small i));
           many = sym many ∙ right ∙ G .each i;
@@ -199,7 +199,7 @@ module _ {s : Shape} {h : List ℕ} (G : Granted s h) {n : ℕ} {words : List �
           held = carried;
         }
 
-      first-placed : i ≡ 0 → {marked : List ℕ} → Fronted (s .m) n (getD h 0 0) marked → Placed s n i words marked
+      first-placed : i ≡ 0 → {marked : List ℕ} → Fronted (s .m) n (getD h 0 0) marked → PlacesMarked s n i words marked
       unfolding widthOf Field.carriers
       first-placed z F =
           let M = first-marked F in
@@ -211,7 +211,7 @@ module _ {s : Shape} {h : List ℕ} (G : Granted s h) {n : ℕ} {words : List �
           }
 
       pub placed : (i ≢ 0 → seen .unerased ≡ getD h i 0) → {marked : List ℕ} → (i ≡ 0 → Fronted (s .m) n (getD h 0 0) marked) →
-          (i ≢ 0 → marked ≡ marks) → Placed s n i words marked
+          (i ≢ 0 → marked ≡ marks) → PlacesMarked s n i words marked
       placed right first later = elim (le-or-lt i 0) [
         | inl z ↦ first-placed (omega arith) (first (omega arith))
         | inr d ↦ let ne : i ≢ 0 = λ z. omega arith in rw (later ne) (later-placed ne (right ne))

@@ -19,7 +19,7 @@ use Rattle.reading.specs.Answers.{readingOf}
 use Rattle.reading.specs.declared.Reading.{Reading}
 use Rattle.storing.specs.Put.{Put}
 use Rattle.storing.proofs.Put.{put-none, put-then, put-length, put-pastes}
-use Rattle.dump.specs.Answers.{haltNumber, haltCarries, Ready, toldNumbers, stepOf}
+use Rattle.dump.specs.Answers.{haltNumber, haltCarries, Walkable, toldNumbers, stepOf}
 use Rattle.dump.specs.declared.Record as Declared
 use Rattle.dump.specs.declared.Halt.{Halt}
 use Rattle.dump.specs.declared.Step.{Step}
@@ -104,7 +104,7 @@ walking-begin kind bytes at rows = record {
     none New = refl
 
 module _ {kind : Kind} {bytes : List ℕ} {at : ℕ} {before rows : List ℕ} {next done place : ℕ} (w : Walking kind bytes at before rows next done place)
-    {places : List ℕ} (ready : Ready kind bytes places) where
+    {places : List ℕ} (ready : Walkable kind bytes places) where
   abbrev rest : List Code.Step
   rest = walkFrom (length before / rowLength kind - done) kind bytes next
 

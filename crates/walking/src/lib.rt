@@ -15,7 +15,7 @@ ghost use Rattle.code.specs.Calls.{readFields};
 ghost use Rattle.code.specs.Dump.{rowLength, walkReply, walkLeaves};
 ghost use Rattle.storing.specs.Put.{Put};
 ghost use Rattle.reading.specs.Answers.{readFieldsOf, readingOf};
-ghost use Rattle.dump.specs.Answers.{Ready};
+ghost use Rattle.dump.specs.Answers.{Walkable};
 ghost use Rattle.walking.specs.Answers.{rowTold, walkedOf, haltedBy};
 
 // Where a walk into rows stopped: the refusal and its offset, the rows filled, where the next step would start, and 1 where the end was reached.
@@ -148,7 +148,7 @@ fn put_row(rows: &mut [u64], place: usize, row: Row, width: usize) -> usize
 
 // Fills a row for each record from a place on, as long as a whole row fits.
 fn fill_rows(dump: &[u8], kind: Kind, places: &[u16], at: usize, rows: &mut [u64]) -> Walked
-    requires { ⌜ Ready kind (now dump) (now places) ⌝ }
+    requires { ⌜ Walkable kind (now dump) (now places) ⌝ }
     ensures { λ r. ⌜ walkedOf r ≡ walkReply kind (now (dump .entry)) at (now (rows .entry)) ⌝ }
     ensures { λ r. ⌜ now (rows .exit) ≡ walkLeaves kind (now (dump .entry)) at (now (rows .entry)) ⌝ }
 {

@@ -9,7 +9,7 @@ use lib.ListN.{length, getD, set, take, length-append, length-set}
 use lib.Seq.{take-suc-set}
 use Rattle.code.proofs.Chosen.{patternMost}
 use Rattle.words.specs.Words.{wordGroups, groupsAt, frontAt}
-use Rattle.words.specs.Marks.{Marks, picked, topOf, Added, Listed, Pickable}
+use Rattle.words.specs.Marks.{Marks, picked, topOf, Added, ListedValues, Pickable}
 use Rattle.words.proofs.Sizes.{word-fits}
 use Rattle.words.proofs.Front.{backAt, back-more, back-none}
 use Rattle.words.proofs.Picked.{Topmost, top-mark, picked-none}
@@ -73,7 +73,7 @@ going-more {goal} {rest} {xs} {k} ps more ys r G e A = record {
   made = rw (A .made, append-assoc, ← e) (G .made);
 }
 
-pub going-all : {goal rest xs : List ℕ} {k : ℕ} → rest ≡ [] → Going goal rest xs k → Listed goal xs k
+pub going-all : {goal rest xs : List ℕ} {k : ℕ} → rest ≡ [] → Going goal rest xs k → ListedValues goal xs k
 going-all {goal} {rest} {xs} {k} e G = record {
   long = G .long;
   count = omega (arith, G .count, ap length e);

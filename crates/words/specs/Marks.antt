@@ -140,7 +140,7 @@ pub record Added (xs before after : List ℕ) (at r : ℕ) : Type 0 where
   pub made : take r after ≡ take at before ++ xs
 
 -- the first r bytes of an array are the list xs
-pub record Listed (xs after : List ℕ) (r : ℕ) : Type 0 where
+pub record ListedValues (xs after : List ℕ) (r : ℕ) : Type 0 where
   pub long : length after ≡ patternMost
   pub count : r ≡ length xs
   pub made : take r after ≡ xs

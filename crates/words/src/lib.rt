@@ -96,7 +96,7 @@ pub fn pick(
 ) -> usize
     requires { ⌜ Marks.Pickable m n (now words) (now marks) × (length (Words.frontAt m n (now marks) (now words)) ≤ patternMost) ⌝ }
     requires { ⌜ length (now values) ≡ patternMost ⌝ }
-    ensures { λ r. ⌜ Marks.Listed (Words.frontAt m n (now (marks .entry)) (now (words .entry))) (now (values .exit)) r ⌝ }
+    ensures { λ r. ⌜ Marks.ListedValues (Words.frontAt m n (now (marks .entry)) (now (words .entry))) (now (values .exit)) r ⌝ }
 {
     let mut k = 0;
     let mut i = 0;

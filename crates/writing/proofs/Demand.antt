@@ -12,7 +12,7 @@ use Rattle.code.specs.declared.Shape.{Shape}
 use Rattle.code.specs.Shape.{firstOf, rangesOf, orderOf, countsOf, widthOf, codeOf}
 use Rattle.code.specs.Lists.{Below}
 use Rattle.code.specs.Cells.{wit, size, ones}
-use Rattle.code.specs.Run.{run, total, opening}
+use Rattle.code.specs.Run.{run, total, openingZeros}
 use Rattle.code.specs.Calls.{answer, passes, layoutRefusal, fieldRead, left, readReply, writeRefusal, writeReply, turnedBy, writeLeaves, generationIn}
 use Rattle.code.proofs.Wits.{Bytes}
 use Rattle.code.proofs.Bytes.{tried-is}
@@ -128,7 +128,7 @@ module _ (s : Shape) (ok : layoutRefusal s 256 ≡ []) (xs : List ℕ) (cells : 
 
   -- Of the forms that have one v: call j, the first being call 0, is accepted exactly when j + 1 less the zeros that open the sequence is at most t.
   pub accepted-exactly : (s .form ≡ 2 → ⊥) → (j : ℕ) → Below (getD (s .v) 0 0) xs → j < length xs →
-      accepts (answers j) ≡ leb (suc j - opening (firstOf s) xs) (s .t)
+      accepts (answers j) ≡ leb (suc j - openingZeros (firstOf s) xs) (s .t)
   accepted-exactly one j b l = passes-is j l ∙ Code.accepted-exactly s ok one xs j b l
 
   -- 02, §2, of a new drive: call j is accepted exactly when j + 1 is at most t.

@@ -30,7 +30,7 @@ use Rattle.words.specs.Marks.{Erased, Layered}
 use Rattle.layout.specs.Plan.{Granted}
 use Rattle.reading.specs.Answers.{fieldGroups, Holds}
 use Rattle.writing.specs.declared.Held.{Held}
-use Rattle.writing.specs.Answers.{afterIn, laidBy, witsOf, groupsHeld, Ready, Carries, Layable, Takes}
+use Rattle.writing.specs.Answers.{afterIn, laidBy, witsOf, groupsHeld, Due, Carries, Layable, Takes}
 
 -- a dealt pattern has so many places, of values up to b
 pub dealt-is : (b fewest s x : ℕ) → 0 < b → x < fewer b s fewest (suc s) → (length (deal b fewest s x) ≡ s) × Upto b (deal b fewest s x)
@@ -123,7 +123,7 @@ module _ {s : Shape} {h : List ℕ} (G : Granted s h) (i x : ℕ) {g : Generatio
   places-due : g .places ≡ getD (countsOf s) i 0
   places-due = ap (λ (g : Generation). g .places) q
 
-  module _ {z : ℕ} {gs : List ℕ} (R : Ready s i z gs) where
+  module _ {z : ℕ} {gs : List ℕ} (R : Due s i z gs) where
     code-ready : (j : ℕ) → i ≡ j → Code.Ready (countsOf s) j gs
     code-ready zero e = R .blank e
     code-ready (suc j) e = let w : getD (countsOf s) i 0 ≤ Field.zeros gs = omega (arith, R .enough, R .none) in rw e at w
@@ -132,7 +132,7 @@ module _ {s : Shape} {h : List ℕ} (G : Granted s h) (i x : ℕ) {g : Generatio
     laid-after many = sym (after-erased s (G .ok) i x gs (code-ready i refl) many ∙ rw q)
 
   pub takes : {f : Held} {words : List ℕ} → witsOf f ≡ s .m → f .groups ≡ widthOf s → Holds (s .m) (widthOf s) (f .n) words →
-      Ready s i (f .zeros) (fieldGroups s (f .n) words) → i < s .t → x < getD (rangesOf s) i 0 → Takes f g x words
+      Due s i (f .zeros) (fieldGroups s (f .n) words) → i < s .t → x < getD (rangesOf s) i 0 → Takes f g x words
   takes {f} {words} m w H R l r =
       let same : groupsHeld f words ≡ fieldGroups s (f .n) words = rw (m, w) in
       record {

@@ -30,7 +30,7 @@ use Rattle.reading.specs.Answers.{refusalOf, readIn, SoundCells, heldGroups, fi
 use Rattle.reading.specs.declared.Refusal.{Refusal}
 use Rattle.reading.specs.declared.Refusal.the-variants.{Plain, Miscounted, Beyond}
 use Rattle.writing.specs.declared.Held.{Held}
-use Rattle.writing.specs.Answers.{aimAt, afterIn, laidBy, witsOf, Ready, Takes}
+use Rattle.writing.specs.Answers.{aimAt, afterIn, laidBy, witsOf, Due, Takes}
 use Rattle.reading.proofs.Judging.{sound-width, loadable, width}
 use Rattle.writing.proofs.Laying.{takes, laid-after}
 
@@ -54,7 +54,7 @@ pub record Aimed (s : Shape) (r : Field.Reading) (i : ℕ) : Type 0 where
 
 -- x is written there on groups gs, z of them being zero
 pub record Place (s : Shape) (x : ℕ) (gs : List ℕ) (i z : ℕ) : Type 0 where
-  pub ready : Ready s i z gs
+  pub ready : Due s i z gs
   pub made : Field.write (codeOf s) x gs ≡ Field.wrote (suc i) (afterIn s i x gs)
 
 module _ {s : Shape} {h : List ℕ} (G : Granted s h) (gs : List ℕ) (i : ℕ) where

@@ -48,7 +48,7 @@ abbrev pub laidBy : ℕ → Generation → ℕ → List ℕ → List ℕ
 laidBy m g x gs = Field.lay (Field.erase (2 ^ m - 1) (Field.zeros gs - g .places) gs) (pattern (g .dealing) (g .places) x)
 
 -- groups that may be written at place i, z of them zero
-pub record Ready (s : Shape) (i z : ℕ) (gs : List ℕ) : Type 0 where
+pub record Due (s : Shape) (i z : ℕ) (gs : List ℕ) : Type 0 where
   pub none : z ≡ Field.zeros gs
   pub blank : i ≡ 0 → written gs ≡ 0
   pub enough : getD (countsOf s) i 0 ≤ z

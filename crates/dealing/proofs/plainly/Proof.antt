@@ -7,12 +7,12 @@ use borrow.Author.Needs.{needs}
 use lib.ListN.{length, take, set, length-set}
 use lib.Seq.{length-take-le}
 use Rattle.code.proofs.Chosen.{patternMost}
-use Rattle.dealing.proofs.Drawing.{Placed, place-begin, fill-two, fill-one, fill-end}
+use Rattle.dealing.proofs.Drawing.{Spelled, place-begin, fill-two, fill-one, fill-end}
 use Rattle.dealing.proofs.plainly.Statement.{statement}
 use Rattle.dealing.proofs.plainly.Tie as tie
 
 abbrev Inv-loop : tie.InvT-loop
-Inv-loop values₀ s e x square part x₀ i₀ values x' i = (length values ≡ patternMost) × Placed e x (take s values) i x'
+Inv-loop values₀ s e x square part x₀ i₀ values x' i = (length values ≡ patternMost) × Spelled e x (take s values) i x'
 
 abbrev μ-loop : tie.MeasureT-loop
 μ-loop values₀ s e x square part x₀ i₀ values x' i = i

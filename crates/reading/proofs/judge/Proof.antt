@@ -4,7 +4,7 @@ use borrow.Author.Needs.{needs}
 use denote.Ref.{now}
 use mathlib.Core.List.{[]}
 use Rattle.shapes.specs.Outlines.{outlined}
-use Rattle.reading.proofs.Judging.{past-asks, width, reads-blank, reads-at, reads-miscounted, Placed, placed, tellable, judged-is}
+use Rattle.reading.proofs.Judging.{past-asks, width, reads-blank, reads-at, reads-miscounted, PlacesMarked, placed, tellable, judged-is}
 use Rattle.reading.proofs.judge.Statement.{statement}
 use Rattle.reading.proofs.judge.Tie as tie
 
@@ -12,7 +12,7 @@ use Rattle.reading.proofs.judge.Tie as tie
 marked : (c : tie.After-generation-at) →
     let p = c .before .before .before .before .before in
     let a = p .before .before .before .before .args in
-    Placed (outlined (a .f) (now (a .v))) (a .n) (p .past .result) (now (a .words)) (c .before .mark-places .last .1 .1 .1 .1 .0)
+    PlacesMarked (outlined (a .f) (now (a .v))) (a .n) (p .past .result) (now (a .words)) (c .before .mark-places .last .1 .1 .1 .1 .0)
 marked c =
     let e = c .before .before .before in
     let p = e .before .before in
