@@ -95,6 +95,6 @@ int done(unsigned due)
 {
     printf("%u checks, %u failed\n", checks, failures);
     if (checks != due)
-        printf("%u checks were due: some are lost, or the number in tests/run-calls is old\n", due);
+        printf("%u checks were due: some are lost, or the number in the script that runs them is old\n", due);
     return failures == 0 && checks == due ? 0 : 1;
 }

@@ -14,9 +14,9 @@ use Rattle.code.proofs.HexImport.{importOn, import-refused, import-ended, impor
 use Rattle.code.proofs.HexCalls.{HexImports, import-short, import-stored}
 use Rattle.storing.specs.Put.{Put}
 use Rattle.storing.proofs.Put.{put-none, put-then, put-pastes}
-use Rattle.hex.specs.Answers.{Judges, Counts}
+use Rattle.hex.specs.Answers.{TestsLine, Counts}
 use Rattle.hex.specs.declared.import.Checked.the-variants.{Wrong, Right}
-use Rattle.hex.specs.declared.import.Judgement.the-variants.{Data, End, Faulty}
+use Rattle.hex.specs.declared.import.LineTested.the-variants.{Data, End, Faulty}
 
 -- the lines before place `at` are taken, which gave `done` bytes
 pub record Checking (text : List ℕ) (at done : ℕ) : Type 0 where
@@ -31,27 +31,27 @@ unfolding hexImport
 checking-begin text = record { within = omega arith; bytes = []; goes = refl; held = (tt, omega arith); many = refl }
 
 module _ {text : List ℕ} {at done : ℕ} (s : Checking text at done) where
-  pub checking-wrong : (k : ℕ) → Judges done (drop at text) (Faulty k) → Counts text (Wrong k)
+  pub checking-wrong : (k : ℕ) → TestsLine done (drop at text) (Faulty k) → Counts text (Wrong k)
   checking-wrong k j = s .goes ∙ import-refused (s .bytes) (drop at text) k [] (rw (s .many) j)
 
-  closes : (size : ℕ) → Judges done (drop at text) (End size) → hexImport text ≡ closed (s .bytes) (drop size (drop at text))
+  closes : (size : ℕ) → TestsLine done (drop at text) (End size) → hexImport text ≡ closed (s .bytes) (drop size (drop at text))
   closes size j = rw (j .2 .0) at (s .goes ∙ import-ended (s .bytes) (drop at text) (rw (s .many) (j .0)) (j .1))
 
-  pub checking-more : (size : ℕ) → Judges done (drop at text) (End size) → size < length text - at → Counts text (Wrong 24)
+  pub checking-more : (size : ℕ) → TestsLine done (drop at text) (End size) → size < length text - at → Counts text (Wrong 24)
   unfolding closed
   checking-more size j l =
       let rest = length-drop size (drop at text) in
       let line = length-drop at text in
       closes size j ∙ rw (ne-eqb (length (drop size (drop at text))) 0 (λ z. omega arith))
 
-  pub checking-right : (size : ℕ) → Judges done (drop at text) (End size) → length text - at ≤ size → Counts text (Right done)
+  pub checking-right : (size : ℕ) → TestsLine done (drop at text) (End size) → length text - at ≤ size → Counts text (Right done)
   unfolding closed
   checking-right size j l =
       let rest = length-drop size (drop at text) in
       let line = length-drop at text in
       (s .bytes, closes size j ∙ rw (eq-eqb (length (drop size (drop at text))) 0 (omega arith)), s .many)
 
-  pub checking-next : (count size : ℕ) → Judges done (drop at text) (Data count size) → Checking text (at + size) (done + count)
+  pub checking-next : (count size : ℕ) → TestsLine done (drop at text) (Data count size) → Checking text (at + size) (done + count)
   checking-next count size j =
       let line : List ℕ = drop at text in
       let q : lineRefusal (length (s .bytes)) line ≡ [] = rw (s .many) (j .0) in
@@ -88,8 +88,8 @@ module _ {b text c : List ℕ} {at done all : ℕ} (s : DataStored b text c at d
     pub loaded-shaped : Shaped line
     loaded-shaped = line-passed done line (loaded-line .0) .shaped
 
-    pub loaded-judged : Judges done line (Data (dataCount line) (lineSize line))
-    loaded-judged = (loaded-line .0, loaded-line .1, refl, (next-is line, omega arith, size-within line loaded-shaped))
+    pub loaded-tested : TestsLine done line (Data (dataCount line) (lineSize line))
+    loaded-tested = (loaded-line .0, loaded-line .1, refl, (next-is line, omega arith, size-within line loaded-shaped))
 
     pub loaded-room : done + dataCount line ≤ all
     loaded-room =
@@ -104,7 +104,7 @@ module _ {b text c : List ℕ} {at done all : ℕ} (s : DataStored b text c at d
     loaded-next d n p =
         let e : n ≡ done + dataCount line = omega (arith, p .ends, data-length line) in
         rw e record {
-          checking = checking-next (s .checking) (dataCount line) (lineSize line) loaded-judged;
+          checking = checking-next (s .checking) (dataCount line) (lineSize line) loaded-tested;
           put = put-then (s .put) (rw e at p);
           whole = s .whole;
         }

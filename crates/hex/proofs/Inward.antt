@@ -1,4 +1,4 @@
--- Laws of an import: a line judged test by test, a text checked line by line, its data stored.
+-- Laws of an import: a line tested test by test, a text checked line by line, its data stored.
 use mathlib.Core.Path.{_≡_, refl, sym, ap, _∙_}
 use mathlib.Core.Logic.{inl, inr}
 use mathlib.Core.Bool.{Bool, true, false, not, _&&_}

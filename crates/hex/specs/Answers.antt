@@ -12,8 +12,8 @@ use Rattle.hex.specs.declared.import.Spelling.the-variants.{Unspelled, W
 use Rattle.hex.specs.declared.import.Line.{Line}
 use Rattle.hex.specs.declared.import.LineShape.{LineShape}
 use Rattle.hex.specs.declared.import.LineShape.the-variants.{Bad, Good}
-use Rattle.hex.specs.declared.import.Judgement.{Judgement}
-use Rattle.hex.specs.declared.import.Judgement.the-variants.{Data, End, Faulty}
+use Rattle.hex.specs.declared.import.LineTested.{LineTested}
+use Rattle.hex.specs.declared.import.LineTested.the-variants.{Data, End, Faulty}
 use Rattle.hex.specs.declared.import.Checked.{Checked}
 use Rattle.hex.specs.declared.import.Checked.the-variants.{Wrong, Right}
 
@@ -38,12 +38,21 @@ abbrev pub Spans : List ℕ → ℕ → Type 0
 Spans line size = (nextLine line ≡ drop size line) × (0 < size) × (size ≤ length line)
 
 -- a line after n bytes: a data record with the count of its data, the end record, or its refusal
-abbrev pub Judges : ℕ → List ℕ → Judgement → Type 0
-Judges n line (Data count size) = (lineRefusal n line ≡ []) × (isEnd line ≡ false) × (dataCount line ≡ count) × Spans line size
-Judges n line (End size) = (lineRefusal n line ≡ []) × (isEnd line ≡ true) × Spans line size
-Judges n line (Faulty k) = lineRefusal n line ≡ k ∷ []
+abbrev pub TestsLine : ℕ → List ℕ → LineTested → Type 0
+TestsLine n line (Data count size) = (lineRefusal n line ≡ []) × (isEnd line ≡ false) × (dataCount line ≡ count) × Spans line size
+TestsLine n line (End size) = (lineRefusal n line ≡ []) × (isEnd line ≡ true) × Spans line size
+TestsLine n line (Faulty k) = lineRefusal n line ≡ k ∷ []
 
 -- a text's refusal, or the count of the bytes that it gives
 abbrev pub Counts : List ℕ → Checked → Type 0
 Counts text (Wrong k) = hexImport text ≡ faulty (k ∷ [])
 Counts text (Right n) = (bytes : List ℕ) × (hexImport text ≡ gives bytes) × (length bytes ≡ n)
+
+-- a line of so many data bytes, all of which digits spell
+abbrev pub HasData : List ℕ → ℕ → Type 0
+HasData line count = (dataCount line ≡ count) × (allSpelled (lineBytes line) ≡ true)
+
+-- the count of a line's data, read anew: below 256 the line and the room have so much, and in a line of the right shape with enough room it is the line's own
+pub record Recounts (line : List ℕ) (room count : ℕ) : Type 0 where
+  pub within : count < 256 → (count ≤ room) × (11 + 2 * count < length line)
+  pub own : Shaped line → dataCount line ≤ room → count ≡ dataCount line

@@ -1,4 +1,5 @@
 // The text of bytes, line by line.
+use crate::CAPITALS;
 ghost use mathlib.Core.Path.{_≡_};
 ghost use mathlib.Core.List.{[], _∷_};
 ghost use Prim.Native.Nat.{_+_, _*_, _<_, _≤_, min};
@@ -12,9 +13,9 @@ fn hex_digit(x: u8) -> u8
     ensures { λ r. ⌜ r ≡ hexDigit x ⌝ }
 {
     if x < 10 {
-        return 48 + x;
+        return b'0' + x;
     }
-    55 + x
+    CAPITALS + x
 }
 
 fn put_digits(out: &mut [u8], at: usize, byte: u8) -> usize

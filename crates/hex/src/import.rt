@@ -1,37 +1,42 @@
-// The bytes of a text: its lines are judged first, and their data stored when all are good.
+// The bytes of a text: its lines are tested first, and their data stored when all are good.
+use crate::CAPITALS;
+use code::refusals;
 ghost use mathlib.Core.Path.{_≡_};
-ghost use mathlib.Core.Bool.{true, not, _&&_};
+ghost use mathlib.Core.Bool.{not, _&&_};
 ghost use Prim.Native.Nat.{_+_, _*_, _<_, _≤_};
 ghost use lib.Dec.{leb, ltb, eqb};
 ghost use lib.ListN.{length, drop};
-ghost use Rattle.code.specs.Hex.{digitNumber, spelledBytes, lineBytes, dataCount, lineData, lineEnd, allSpelled, isEnd};
+ghost use Rattle.code.specs.Hex.{digitNumber, spelledBytes, lineData, lineEnd, isEnd};
 ghost use Rattle.code.specs.Hex.{hexImport, bytesOf};
-ghost use Rattle.code.proofs.HexLines.{byteAt, lineSize};
+ghost use Rattle.code.proofs.HexLines.{byteAt};
 ghost use Rattle.storing.specs.Put.{Put};
-ghost use Rattle.hex.specs.Answers.{Sums, TellsShape, Measured, Judges, Counts};
+ghost use Rattle.hex.specs.Answers.{Sums, TellsShape, Measured, TestsLine, Counts, HasData, Recounts};
 ghost use Rattle.hex.specs.declared.import.Checked.the-variants.{Right};
+
+// What a small letter stands above the number that it is a digit of.
+const SMALL_LETTERS: u8 = b'a' - 10;
 
 // A digit's number, 16 for any other character.
 fn digit_number(c: u8) -> usize
     ensures { λ r. ⌜ (r ≡ digitNumber c) × (r ≤ 16) ⌝ }
 {
-    if c <= 57 {
-        if c < 48 {
+    if c <= b'9' {
+        if c < b'0' {
             return 16;
         }
-        return (c - 48) as usize;
+        return (c - b'0') as usize;
     }
-    if c <= 70 {
-        if c < 65 {
+    if c <= b'F' {
+        if c < b'A' {
             return 16;
         }
-        return (c - 55) as usize;
+        return (c - CAPITALS) as usize;
     }
-    if c < 97 {
+    if c < b'a' {
         return 16;
     }
-    if c <= 102 {
-        return (c - 87) as usize;
+    if c <= b'f' {
+        return (c - SMALL_LETTERS) as usize;
     }
     16
 }
@@ -55,7 +60,7 @@ fn byte_at(line: &[u8], i: usize) -> usize
 // The characters of the line's end at a place, 0 where there is none.
 fn end_at(line: &[u8], at: usize) -> usize
     requires { ⌜ at < length (now line) ⌝ }
-    ensures { λ r. ⌜ r ≡ lineEnd (drop at (now (line .entry))) ⌝ }
+    ensures { λ r. ⌜ (r ≡ lineEnd (drop at (now (line .entry)))) × (at + r ≤ length (now (line .entry))) ⌝ }
 {
     if line[at] == b'\n' {
         return 1;
@@ -154,7 +159,7 @@ fn tell_shape(line: &[u8]) -> LineShape
     }
 }
 
-pub enum Judgement {
+pub enum LineTested {
     // The count of data bytes, and the characters of the line.
     Data { count: usize, size: usize },
     End { size: usize },
@@ -192,44 +197,44 @@ fn is_displaced(kind: usize, count: usize, address: usize, done: usize) -> bool
 }
 
 // A line of the right shape after `done` bytes, by the tests in their order.
-fn judge_shaped(line: &[u8], l: Line, done: usize) -> Judgement
+fn test_shaped(line: &[u8], l: Line, done: usize) -> LineTested
     requires { ⌜ Measured (now line) l × (done ≤ 65536) ⌝ }
-    ensures { λ r. ⌜ Judges done (now (line .entry)) r ⌝ }
+    ensures { λ r. ⌜ TestsLine done (now (line .entry)) r ⌝ }
 {
     let kind = byte_at(line, 3);
     let address = 256 * byte_at(line, 1) + byte_at(line, 2);
     if is_laden_end(kind, l.count, address) {
-        return Judgement::Faulty(20);
+        return LineTested::Faulty(refusals::LINE);
     }
     if l.sum % 256 != 0 {
-        return Judgement::Faulty(21);
+        return LineTested::Faulty(refusals::SUM);
     }
     if is_displaced(kind, l.count, address, done) {
-        return Judgement::Faulty(22);
+        return LineTested::Faulty(refusals::ADDRESS);
     }
     if 1 < kind {
-        return Judgement::Faulty(24);
+        return LineTested::Faulty(refusals::TYPE);
     }
     if is_end(line) {
-        return Judgement::End { size: l.size };
+        return LineTested::End { size: l.size };
     }
-    Judgement::Data {
+    LineTested::Data {
         count: l.count,
         size: l.size,
     }
 }
 
 // The line at the front of a text, after `done` bytes.
-fn judge_line(line: &[u8], done: usize) -> Judgement
+fn test_line(line: &[u8], done: usize) -> LineTested
     requires { ⌜ done ≤ 65536 ⌝ }
-    ensures { λ r. ⌜ Judges done (now (line .entry)) r ⌝ }
+    ensures { λ r. ⌜ TestsLine done (now (line .entry)) r ⌝ }
 {
     if line.len() == 0 {
-        return Judgement::Faulty(23);
+        return LineTested::Faulty(refusals::NO_END);
     }
     match tell_shape(line) {
-        LineShape::Bad => Judgement::Faulty(20),
-        LineShape::Good(l) => judge_shaped(line, l, done),
+        LineShape::Bad => LineTested::Faulty(refusals::LINE),
+        LineShape::Good(l) => test_shaped(line, l, done),
     }
 }
 
@@ -246,15 +251,15 @@ pub fn check_text(text: &[u8]) -> Checked
     let mut at = 0;
     let mut done = 0;
     loop {
-        match judge_line(&text[at..], done) {
-            Judgement::Faulty(k) => return Checked::Wrong(k),
-            Judgement::End { size } => {
+        match test_line(&text[at..], done) {
+            LineTested::Faulty(k) => return Checked::Wrong(k),
+            LineTested::End { size } => {
                 if size < text.len() - at {
-                    return Checked::Wrong(24);
+                    return Checked::Wrong(refusals::TYPE);
                 }
                 return Checked::Right(done);
             }
-            Judgement::Data { count, size } => {
+            LineTested::Data { count, size } => {
                 at += size;
                 done += count;
             }
@@ -262,26 +267,27 @@ pub fn check_text(text: &[u8]) -> Checked
     }
 }
 
-// The number of a character that is a digit: letters stand 64 and 96 on in the code, and count from 1.
+// The number of a character that is a digit: letters stand 64 and 96 on in the code, and count from 1. A small number for any other.
 fn known_digit(c: u8) -> u8
-    requires { ⌜ digitNumber c < 16 ⌝ }
-    ensures { λ r. ⌜ r ≡ digitNumber c ⌝ }
+    ensures { λ r. ⌜ (digitNumber c < 16 → r ≡ digitNumber c) × (r ≤ 42) ⌝ }
 {
     c % 16 + 9 * (c / 64)
 }
 
-// Byte i behind a line's colon, which digits spell.
+// Byte i behind a line's colon, where digits spell it.
 fn known_byte(line: &[u8], i: usize) -> u8
-    requires { ⌜ (2 * i + 2 < length (now line)) × (byteAt (now line) i < 256) ⌝ }
-    ensures { λ r. ⌜ r ≡ byteAt (now (line .entry)) i ⌝ }
+    requires { ⌜ 2 * i + 2 < length (now line) ⌝ }
+    ensures { λ r. ⌜ (byteAt (now (line .entry)) i < 256 → r ≡ byteAt (now (line .entry)) i) ⌝ }
 {
-    16 * known_digit(line[2 * i + 1]) + known_digit(line[2 * i + 2])
+    let high = known_digit(line[2 * i + 1]) as u64;
+    let low = known_digit(line[2 * i + 2]) as u64;
+    ((16 * high + low) % 256) as u8
 }
 
-// The data of a line that was judged.
+// So much data of a line that was tested.
 fn put_data(out: &mut [u8], at: usize, line: &[u8], count: usize) -> usize
-    requires { ⌜ (at + count ≤ length (now out)) × (dataCount (now line) ≡ count) × (allSpelled (lineBytes (now line)) ≡ true) × (11 + 2 * count < length (now line)) ⌝ }
-    ensures { λ r. ⌜ Put (now (out .entry)) (now (out .exit)) at (lineData (now (line .entry))) r ⌝ }
+    requires { ⌜ (at + count ≤ length (now out)) × (11 + 2 * count < length (now line)) ⌝ }
+    ensures { λ r. ⌜ (r ≡ at + count) × (HasData (now (line .entry)) count → Put (now (out .entry)) (now (out .exit)) at (lineData (now (line .entry))) r) ⌝ }
 {
     let mut i = 0;
     while i < count {
@@ -293,22 +299,43 @@ fn put_data(out: &mut [u8], at: usize, line: &[u8], count: usize) -> usize
 
 // The characters of a line of so many data bytes, with its end.
 fn line_size(line: &[u8], count: usize) -> usize
-    requires { ⌜ (dataCount (now line) ≡ count) × (11 + 2 * count < length (now line)) ⌝ }
-    ensures { λ r. ⌜ r ≡ lineSize (now (line .entry)) ⌝ }
+    requires { ⌜ 11 + 2 * count < length (now line) ⌝ }
+    ensures { λ r. ⌜ (r ≡ 11 + 2 * count + lineEnd (drop (11 + 2 * count) (now (line .entry)))) × (r ≤ length (now (line .entry))) ⌝ }
 {
     let behind = 11 + 2 * count;
     behind + end_at(line, behind)
 }
 
-// The data of all lines of a text that was checked.
+// The count of the data of a line that was tested, read anew; 256 where the line or the room ends before so much data.
+fn count_within(line: &[u8], room: usize) -> usize
+    ensures { λ r. ⌜ Recounts (now (line .entry)) room r ⌝ }
+{
+    if line.len() < 12 {
+        return 256;
+    }
+    let count = byte_at(line, 0);
+    if line.len() <= 11 + 2 * count {
+        return 256;
+    }
+    if room < count {
+        return 256;
+    }
+    count
+}
+
+// The data of all lines of a text that was checked. Its lines are read anew, and where something changes them in between, which the header forbids, the tests
+// of `count_within` alone keep the stores within the `all` bytes that the output has room for, and the reads within the text.
 pub fn put_all_data(out: &mut [u8], text: &[u8], all: usize) -> usize
-    requires { ⌜ Counts (now text) (Right all) × (all ≤ length (now out)) ⌝ }
-    ensures { λ r. ⌜ Put (now (out .entry)) (now (out .exit)) 0 (bytesOf (hexImport (now (text .entry)))) r ⌝ }
+    requires { ⌜ all ≤ length (now out) ⌝ }
+    ensures { λ r. ⌜ (Counts (now (text .entry)) (Right all) → Put (now (out .entry)) (now (out .exit)) 0 (bytesOf (hexImport (now (text .entry)))) r) ⌝ }
 {
     let mut at = 0;
     let mut done = 0;
     while done < all {
-        let count = byte_at(&text[at..], 0);
+        let count = count_within(&text[at..], all - done);
+        if 256 <= count {
+            return done;
+        }
         done = put_data(out, done, &text[at..], count);
         at += line_size(&text[at..], count);
     }

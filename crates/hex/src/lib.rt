@@ -2,6 +2,7 @@
 mod export;
 mod import;
 
+use code::refusals;
 use storing::Made;
 ghost use mathlib.Core.Path.{_≡_};
 ghost use Rattle.code.specs.Hex.{hexExportReply, hexExportLeaves, hexImportReply, hexImportLeaves};
@@ -9,6 +10,9 @@ ghost use Rattle.storing.specs.Answers.{madeOf};
 
 // The most bytes of a text: there are no more addresses.
 pub const BYTES_MOST: usize = 65536;
+
+// What a capital letter stands above the number that it is a digit of.
+const CAPITALS: u8 = b'A' - 10;
 
 // The end record.
 pub const END: [u8; 12] = *b":00000001FF\n";
@@ -19,10 +23,10 @@ pub fn hex_export(bytes: &[u8], out: &mut [u8]) -> Made
     ensures { λ r. ⌜ now (out .exit) ≡ hexExportLeaves (now (bytes .entry)) (now (out .entry)) ⌝ }
 {
     if BYTES_MOST < bytes.len() {
-        return Made::Refused(8);
+        return Made::Refused(refusals::TOO_LONG);
     }
     if out.len() < 12 * ((bytes.len() + 15) / 16) + 2 * bytes.len() + 12 {
-        return Made::Refused(9);
+        return Made::Refused(refusals::OUTPUT);
     }
     let at = export::put_lines(out, bytes);
     Made::Stored(export::put_end(out, at))
@@ -37,7 +41,7 @@ pub fn hex_import(text: &[u8], out: &mut [u8]) -> Made
         import::Checked::Wrong(k) => Made::Refused(k),
         import::Checked::Right(all) => {
             if out.len() < all {
-                return Made::Refused(9);
+                return Made::Refused(refusals::OUTPUT);
             }
             Made::Stored(import::put_all_data(out, text, all))
         }

@@ -1,5 +1,5 @@
 -- What a pass over the records of a dump knows: begun, a record more, at the end, stopped.
-use Prim.Native.Nat.{ℕ, _+_, _-_}
+use Prim.Native.Nat.{ℕ, _+_, _-_, _≤_}
 use mathlib.Core.Path.{_≡_, refl, sym, ap, _∙_}
 use mathlib.Core.List.{List, [], _∷_, _++_, append-assoc, append-nil}
 use native.Mathlib.Omega.{arith}
@@ -85,11 +85,13 @@ module _ (kind : Kind) (bytes : List ℕ) (at : ℕ) (source : Source) {x : Loca
 abbrev pub entryAt : List ℕ → Record → Entry
 entryAt bytes r = entryOf r (cellsOf bytes r)
 
+-- a part within the dump is as long as it was asked to be
+pub part-long : (bytes : List ℕ) (start count : ℕ) → start + count ≤ length bytes → length (take count (drop start bytes)) ≡ count
+part-long bytes start count h = length-take-le count (drop start bytes) (omega (arith, length-drop start bytes))
+
 pub cells-count : (kind : Kind) (bytes : List ℕ) (at : ℕ) (r : Record) → step kind bytes at ≡ taken r → length (cellsOf bytes r) ≡ r .count
 unfolding cellsOf
-cells-count kind bytes at r e =
-    let f = step-forward kind bytes at r e in
-    length-take-le (r .count) (drop (r .start) bytes) (omega (arith, f .2, length-drop (r .start) bytes))
+cells-count kind bytes at r e = part-long bytes (r .start) (r .count) (step-forward kind bytes at r e .2)
 
 module _ {kind : Kind} {bytes : List ℕ} {gone : List Entry} {at : ℕ} (p : Passing kind bytes gone at) where
   -- the records that are left begin with the one that stands there

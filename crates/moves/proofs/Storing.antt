@@ -13,8 +13,8 @@ use Rattle.code.proofs.Tests.{clash}
 use Rattle.code.proofs.Digits.{sevens-few}
 use Rattle.code.proofs.Records.{record-size, numerals-few, step-entered}
 use Rattle.code.proofs.Walk.{step-in-forward}
-use Rattle.storing.specs.Put.{Put}
-use Rattle.storing.proofs.Put.{put-none, put-then, put-length}
+use Rattle.storing.specs.Put.{Put, fitting}
+use Rattle.storing.proofs.Put.{put-none, put-then, put-length, fitting-all, fitting-within}
 use Rattle.records.specs.Source.{sourceOf}
 use Rattle.dump.specs.Answers.{haltNumber, haltCarries}
 use Rattle.dump.specs.declared.Halt.{Halt}
@@ -89,25 +89,24 @@ module _ (source : Source) (ls : List Listed) (kind : Kind) (bytes places : List
         let w = passing-end (m .pass) e in
         (w .0, m .sum ∙ ap (λ es. length (saidBy source ls es)) (sym (w .1)))
 
--- the records before place `at` are stored, from `first` up to `place`
+-- the records before place `at` are stored, from `first` up to `place`, where there is room for all; `place` is in the output even where there is not
 pub record Filling (source : Source) (ls : List Listed) (kind : Kind) (bytes before : List ℕ) (first : ℕ) (after : List ℕ) (at place : ℕ) : Type 0 where
   pub gone : List Entry
   pub pass : Passing kind bytes gone at
-  pub put : Put before after first (saidBy source ls gone) place
+  pub same : length after ≡ length before
+  pub inside : place ≤ length after
+  pub put : first + length (saidBy source ls (entriesIn kind bytes)) ≤ length before → Put before after first (saidBy source ls gone) place
 
 pub filling-begin : (source : Source) (ls : List Listed) (kind : Kind) (bytes places : List ℕ) (start : ℕ) → Begins kind bytes places start →
-    (before : List ℕ) (first : ℕ) → Filling source ls kind bytes before first before start first
+    (before : List ℕ) (first : ℕ) → first ≤ length before → Filling source ls kind bytes before first before start first
 unfolding recordsOf numbered
-filling-begin source ls kind bytes places start o before first =
-    record { gone = []; pass = passing-begin kind bytes places start o; put = put-none before first }
+filling-begin source ls kind bytes places start o before first i =
+    record { gone = []; pass = passing-begin kind bytes places start o; same = refl; inside = i; put = λ h. put-none before first }
 
 module _ {source : Source} {ls : List Listed} {kind : Kind} {bytes before : List ℕ} {first : ℕ} {after : List ℕ} {at place : ℕ}
     (f : Filling source ls kind bytes before first after at place) where
-  pub filling-same : length after ≡ length before
-  filling-same = put-length (f .put)
-
-  -- there is room for one more
-  pub filling-room : first + length (saidBy source ls (entriesIn kind bytes)) ≤ length before → (r : Record) → step kind bytes at ≡ taken r →
+  -- where there is room for all, there is room for one more
+  filling-room : first + length (saidBy source ls (entriesIn kind bytes)) ≤ length before → (r : Record) → step kind bytes at ≡ taken r →
       place + length (movedAt source ls bytes r) ≤ length after
   filling-room h r e =
       let gone = f .gone in
@@ -116,18 +115,26 @@ module _ {source : Source} {ls : List Listed} {kind : Kind} {bytes before : List
       let all : saidBy source ls (entriesIn kind bytes) ≡ (saidBy source ls gone ++ movedAt source ls bytes r) ++ saidBy source ls left =
       ap (saidBy source ls) (passing-left (f .pass) r e ∙ sym (append-assoc gone one left)) ∙ said-append source ls (gone ++ one) left
       ∙ rw (said-next source ls gone (entryAt bytes r)) in
-      omega (arith, h, filling-same, f .put .ends, simp length-append at (ap length all))
+      omega (arith, h, f .same, f .put h .ends, simp length-append at (ap length all))
 
-  pub filling-next : (r : Record) → step kind bytes at ≡ taken r → {after′ : List ℕ} {place′ : ℕ} → Put after after′ place (movedAt source ls bytes r) place′ →
+  -- a record is stored, or does not fit
+  pub filling-next : (r : Record) → step kind bytes at ≡ taken r → {after′ : List ℕ} {place′ : ℕ} →
+      Put after after′ place (fitting after place (movedAt source ls bytes r)) place′ →
       Filling source ls kind bytes before first after′ (r .start + r .count) place′
-  filling-next r e p = record {
-    gone = f .gone ++ (entryAt bytes r ∷ []);
-    pass = passing-next (f .pass) r e;
-    put = rw (said-next source ls (f .gone) (entryAt bytes r)) (put-then (f .put) p);
-  }
+  filling-next r e p =
+      let moved : List ℕ = movedAt source ls bytes r in
+      record {
+        gone = f .gone ++ (entryAt bytes r ∷ []);
+        pass = passing-next (f .pass) r e;
+        same = put-length p ∙ f .same;
+        inside = omega (arith, put-length p, p .ends, fitting-within after place moved (f .inside));
+        put = λ h. rw (said-next source ls (f .gone) (entryAt bytes r))
+            (put-then (f .put h) (rw (fitting-all after place moved (filling-room h r e)) at p));
+      }
 
-  pub filling-end : step kind bytes at ≡ ended → Put before after first (saidBy source ls (entriesIn kind bytes)) place
-  filling-end e = rw (passing-end (f .pass) e .1) (f .put)
+  pub filling-end : step kind bytes at ≡ ended → first + length (saidBy source ls (entriesIn kind bytes)) ≤ length before →
+      Put before after first (saidBy source ls (entriesIn kind bytes)) place
+  filling-end e h = rw (passing-end (f .pass) e .1) (f .put h)
 
   -- a walk that meets its end does not stop
   pub filling-stop : stopOf (walk kind bytes) ≡ [] → (halt : Halt) → step kind bytes at ≡ stopped (haltNumber halt) (haltCarries halt) →

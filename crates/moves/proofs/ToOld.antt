@@ -20,7 +20,7 @@ use Rattle.records.specs.declared.Said.{Said}
 use Rattle.records.specs.declared.Head.{Head}
 use Rattle.records.specs.Source.{layoutAt, layoutsAt, sourceOf}
 use Rattle.records.specs.Head.{saidShape, headRecord}
-use Rattle.storing.specs.Put.{Put}
+use Rattle.storing.specs.Put.{Put, fitting}
 use Rattle.dump.specs.Kept.{noneSaid}
 use Rattle.dump.proofs.Keeping.{none-said}
 use Rattle.moves.specs.Kept.{saidHead, SaysOld}
@@ -67,9 +67,9 @@ module _ (bytes places : List ℕ) where
       let v : k .v ≡ getD (s .v) 0 0 = K .same-v ∙ ap (λ (x : Shape). getD (x .v) 0 0) q in
       rw (m, t, v)
 
-pub put-same : {before after xs ys : List ℕ} (cells : List ℕ) {place r : ℕ} → xs ≡ ys → Put before after place (recordOf xs cells) r →
-    Put before after place (recordOf ys cells) r
-put-same {before} {after} cells {place} {r} e p = subst (λ n. Put before after place (recordOf n cells) r) e p
+pub put-same : {before after xs ys : List ℕ} (cells : List ℕ) {place r : ℕ} → xs ≡ ys → Put before after place (fitting before place (recordOf xs cells)) r →
+    Put before after place (fitting before place (recordOf ys cells)) r
+put-same {before} {after} cells {place} {r} e p = subst (λ n. Put before after place (fitting before place (recordOf n cells)) r) e p
 
 -- the layouts from place i on, one by one
 module _ (bytes places : List ℕ) (i : ℕ) (h : i < length places) where

@@ -1,8 +1,11 @@
-// Document 02, §3: "Move old dumps to new, with layouts in order of first use, and back."
+// Document 02, §3: "Move old dumps to new, with layouts in order of first use, and back." A move measures in a first pass and stores in a second, which reads
+// the dump anew. The header forbids that it changes in between. Where it does nevertheless, nothing behind the output is stored: the second pass takes nothing
+// on trust that the first one found, and tests by itself that each record fits.
 mod to_new;
 mod to_old;
 
 use code::Kind;
+use code::refusals;
 use dump::Halt;
 use dump::Opened;
 use records::Head;
@@ -35,7 +38,7 @@ fn stop_move(halt: Halt) -> Moved
 {
     match halt {
         Halt::Malformed { offset } => Moved::Malformed { offset },
-        Halt::Oversize => Moved::Refused(8),
+        Halt::Oversize => Moved::Refused(refusals::TOO_LONG),
     }
 }
 
@@ -44,22 +47,23 @@ fn refuse_length(length: usize, room: usize) -> u64
     ensures { λ r. ⌜ refusedBy r ≡ lengthRefusal «length» room ⌝ }
 {
     if dump::DUMP_MOST < length {
-        return 8;
+        return refusals::TOO_LONG;
     }
     if room < length {
-        return 9;
+        return refusals::OUTPUT;
     }
     0
 }
 
 // Stores the record of a head at a place of `out`, with other numbers before n.
 fn put_moved(dump: &[u8], head: Head, numbers: &[u64], out: &mut [u8], place: usize) -> usize
-    requires { ⌜ Below (2 ^ 63) (now numbers) ⌝ }
+    requires { ⌜ Below (2 ^ 63) (now numbers) × (head .start + head .count ≤ length (now dump)) ⌝ }
     requires { ⌜ place + length (recordOf (now numbers) (cellsAt (now dump) head)) ≤ length (now out) ⌝ }
     ensures { λ r. ⌜ Put (now (out .entry)) (now (out .exit)) place (recordOf (now (numbers .entry)) (cellsAt (now (dump .entry)) head)) r ⌝ }
 {
-    let cells = records::part(dump, head.start, head.count);
-    records::put_record(out, place, numbers, cells)
+    let start = head.start;
+    let end = start + head.count;
+    records::put_record(out, place, numbers, &dump[start..end])
 }
 
 // Moves an old dump to a new one, which it stores at the front of `out`.

@@ -2,6 +2,7 @@
 use crate::LAYOUTS_MOST;
 use crate::Moved;
 use code::Kind;
+use code::refusals;
 use dump::Halt;
 use dump::Located;
 use records::Head;
@@ -17,7 +18,7 @@ ghost use Rattle.code.specs.Numerals.{numeralsOf};
 ghost use Rattle.code.specs.Export.{recordOf};
 ghost use Rattle.code.specs.Dump.{walk};
 ghost use Rattle.code.specs.NewDump.{stopOf, placeOf, joined, toNewReply, toNewLeaves};
-ghost use Rattle.storing.specs.Put.{Put};
+ghost use Rattle.storing.specs.Put.{Put, fitting};
 ghost use Rattle.moves.specs.Answers.{movedOf};
 ghost use Rattle.moves.specs.Kept.{keptAt, saidListed, keptLayouts, Keeps};
 ghost use Rattle.moves.specs.Passes.{Begins, cellsAt, Collects, Gathers, numberedBy};
@@ -131,13 +132,17 @@ fn put_list(kept: &[u64], layouts: usize, out: &mut [u8]) -> usize
     numerals::write_numbers(out, behind, &kept[0..end])
 }
 
-// Stores a record with the number of its layout at a place of `out`.
+// Stores a record with the number of its layout at a place of `out`, or nothing where it does not fit.
 fn put_new(dump: &[u8], head: Head, number: u64, out: &mut [u8], place: usize) -> usize
-    requires { ⌜ (head .serial < 2 ^ 63) × (number < 2 ^ 63) ⌝ }
-    requires { ⌜ place + length (recordOf (head .serial ∷ number ∷ []) (cellsAt (now dump) head)) ≤ length (now out) ⌝ }
-    ensures { λ r. ⌜ Put (now (out .entry)) (now (out .exit)) place (recordOf (head .serial ∷ number ∷ []) (cellsAt (now (dump .entry)) head)) r ⌝ }
+    requires { ⌜ (head .serial < 2 ^ 63) × (number < 2 ^ 63) × (head .start + head .count ≤ length (now dump)) × (place ≤ length (now out)) ⌝ }
+    ensures { λ r.
+        let moved = recordOf (head .serial ∷ number ∷ []) (cellsAt (now (dump .entry)) head) in
+        ⌜ Put (now (out .entry)) (now (out .exit)) place (fitting (now (out .entry)) place moved) r ⌝ }
 {
     let numbers = [head.serial, number];
+    if !records::fits(&numbers, head.count, out.len() - place) {
+        return place;
+    }
     crate::put_moved(dump, head, &numbers, out, place)
 }
 
@@ -150,9 +155,11 @@ fn put_records(
     out: &mut [u8],
     first: usize,
 ) -> usize
-    requires { ⌜ Begins Old (now dump) (now places) 0 × (stopOf (walk Old (now dump)) ≡ []) ⌝ }
-    requires { ⌜ (layouts ≤ 64) × (length (now kept) ≡ 256) × (first + length (numberedBy (keptLayouts layouts (now kept)) (now dump)) ≤ length (now out)) ⌝ }
-    ensures { λ r. ⌜ Put (now (out .entry)) (now (out .exit)) first (numberedBy (keptLayouts layouts (now (kept .entry))) (now (dump .entry))) r ⌝ }
+    requires { ⌜ Begins Old (now dump) (now places) 0 × (layouts ≤ 64) × (length (now kept) ≡ 256) × (first ≤ length (now out)) ⌝ }
+    ensures { λ r.
+        let moved = numberedBy (keptLayouts layouts (now (kept .entry))) (now (dump .entry)) in
+        ⌜ (stopOf (walk Old (now (dump .entry))) ≡ [] → first + length moved ≤ length (now (out .entry))
+        → Put (now (out .entry)) (now (out .exit)) first moved r) ⌝ }
 {
     let mut at = 0;
     let mut place = first;
@@ -188,7 +195,7 @@ fn store(
     ensures { λ r. ⌜ now (out .exit) ≡ toNewLeaves (now (dump .entry)) (now (out .entry)) ⌝ }
 {
     if LAYOUTS_MOST < layouts {
-        return Moved::Refused(13);
+        return Moved::Refused(refusals::LAYOUTS);
     }
     let end = 4 * layouts;
     let long = 1 + numerals::numbers_length(&kept[0..end]) + total;

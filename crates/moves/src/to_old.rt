@@ -1,6 +1,7 @@
 // 02, §3, "and back": a new dump that is opened, moved to an old one.
 use crate::Moved;
 use code::Kind;
+use code::refusals;
 use dump::Halt;
 use dump::Located;
 use records::Head;
@@ -14,7 +15,7 @@ ghost use Rattle.code.specs.Lists.{Below};
 ghost use Rattle.code.specs.Export.{recordOf};
 ghost use Rattle.code.specs.Dump.{walk};
 ghost use Rattle.code.specs.NewDump.{stopOf, foreign, toOld, toOldReply, toOldLeaves};
-ghost use Rattle.storing.specs.Put.{Put};
+ghost use Rattle.storing.specs.Put.{Put, fitting};
 ghost use Rattle.records.specs.Source.{layoutsAt, sourceOf};
 ghost use Rattle.moves.specs.Answers.{movedOf};
 ghost use Rattle.moves.specs.Kept.{saidHead, SaysOld};
@@ -94,21 +95,26 @@ fn has_foreign(dump: &[u8], places: &[u16]) -> bool
     false
 }
 
-// Stores a record with what its layout says at a place of `out`.
+// Stores a record with what its layout says at a place of `out`, or nothing where it does not fit.
 fn put_old(dump: &[u8], head: Head, said: Said, out: &mut [u8], place: usize) -> usize
-    requires { ⌜ Below (2 ^ 63) (saidHead (head .serial) said) ⌝ }
-    requires { ⌜ place + length (recordOf (saidHead (head .serial) said) (cellsAt (now dump) head)) ≤ length (now out) ⌝ }
-    ensures { λ r. ⌜ Put (now (out .entry)) (now (out .exit)) place (recordOf (saidHead (head .serial) said) (cellsAt (now (dump .entry)) head)) r ⌝ }
+    requires { ⌜ Below (2 ^ 63) (saidHead (head .serial) said) × (head .start + head .count ≤ length (now dump)) × (place ≤ length (now out)) ⌝ }
+    ensures { λ r.
+        let moved = recordOf (saidHead (head .serial) said) (cellsAt (now (dump .entry)) head) in
+        ⌜ Put (now (out .entry)) (now (out .exit)) place (fitting (now (out .entry)) place moved) r ⌝ }
 {
     let numbers = [head.serial, said.m, said.t, said.v];
+    if !records::fits(&numbers, head.count, out.len() - place) {
+        return place;
+    }
     crate::put_moved(dump, head, &numbers, out, place)
 }
 
 // Stores all records of a dump at the front of `out`.
 fn put_records(dump: &[u8], places: &[u16], start: usize, out: &mut [u8]) -> usize
-    requires { ⌜ Begins New (now dump) (now places) start × (stopOf (walk New (now dump)) ≡ []) ⌝ }
-    requires { ⌜ length (toOld (now dump)) ≤ length (now out) ⌝ }
-    ensures { λ r. ⌜ Put (now (out .entry)) (now (out .exit)) 0 (toOld (now (dump .entry))) r ⌝ }
+    requires { ⌜ Begins New (now dump) (now places) start ⌝ }
+    ensures { λ r.
+        let moved = toOld (now (dump .entry)) in
+        ⌜ (stopOf (walk New (now (dump .entry))) ≡ [] → length moved ≤ length (now (out .entry)) → Put (now (out .entry)) (now (out .exit)) 0 moved r) ⌝ }
 {
     let mut at = start;
     let mut place = 0;
@@ -140,7 +146,7 @@ pub fn move_records(dump: &[u8], places: &[u16], start: usize, out: &mut [u8]) -
     match measure(dump, places, start) {
         Measured::Whole(total) => {
             if has_foreign(dump, places) {
-                return Moved::Refused(12);
+                return Moved::Refused(refusals::FORM);
             }
             let refusal = crate::refuse_length(total, out.len());
             if refusal != 0 {

@@ -7,6 +7,7 @@ use numerals::Numbers;
 ghost use mathlib.Core.Path.{_≡_};
 ghost use mathlib.Core.List.{List};
 ghost use Prim.Native.Nat.{ℕ, suc, _+_, _^_, _≤_, _<_};
+ghost use lib.Dec.{leb};
 ghost use lib.ListN.{length, getD, take, drop};
 ghost use Rattle.code.specs.Lists.{Below};
 ghost use Rattle.code.specs.Numerals.{readNumbers};
@@ -161,6 +162,17 @@ pub fn record_length(head: &[u64], count: usize) -> usize
     ensures { λ r. ⌜ ((cells : List ℕ) → length cells ≡ count → r ≡ length (recordOf (now (head .entry)) cells)) ⌝ }
 {
     numerals::numbers_length(head) + numerals::number_length(count as u64) + count
+}
+
+// Whether so much room holds a record. The most bytes that its numbers can take tell it, but for a record near the room's end, whose numbers are measured.
+pub fn fits(head: &[u64], count: usize, room: usize) -> bool
+    requires { ⌜ Below (2 ^ 63) (now head) × (length (now head) < 2 ^ 32) × (count < 2 ^ 63) ⌝ }
+    ensures { λ r. ⌜ ((cells : List ℕ) → length cells ≡ count → r ≡ leb (length (recordOf (now (head .entry)) cells)) room) ⌝ }
+{
+    if 9 * (head.len() + 1) + count <= room {
+        return true;
+    }
+    record_length(head, count) <= room
 }
 
 // The record at a place of `out`.

@@ -1,13 +1,16 @@
 -- Laws of stores one after the other.
-use mathlib.Core.Path.{_≡_, refl, _∙_}
+use mathlib.Core.Path.{_≡_, refl, sym, _∙_}
+use mathlib.Core.Bool.{Bool, true, false, not}
 use mathlib.Core.List.{List, [], _∷_, _++_, append-assoc}
-use Prim.Native.Nat.{ℕ, suc, _+_, _≤_}
+use Prim.Native.Nat.{ℕ, suc, _+_, _-_, _≤_}
 use native.Mathlib.Omega.{arith}
 use native.Mathlib.Nat.{add-zero, add-suc, suc-add}
 use native.Mathlib.Numerals.{add-one}
+use lib.Dec.{leb}
 use lib.ListN.{length, take, drop, set, length-set, length-append}
 use lib.Seq.{sets, length-sets, sets-eq, set-comm}
-use Rattle.storing.specs.Put.{Put}
+use borrow.Author.Tests.{le-leb, leb-true, not-true, not-false}
+use Rattle.storing.specs.Put.{Put, fitting}
 
 sets-append : (b : List ℕ) (at : ℕ) (ys zs : List ℕ) → sets b at (ys ++ zs) ≡ sets (sets b at ys) (at + length ys) zs
 sets-append b at [] zs = rw add-zero
@@ -26,6 +29,29 @@ put-length {b} {c} {at} {n} {ys} p = rw (p .stored) (length-sets b at ys)
 -- what a put leaves, where there is room: what stood before the place, what is stored, what stood behind
 pub put-pastes : {b c : List ℕ} {at n : ℕ} {ys : List ℕ} → Put b c at ys n → n ≤ length b → c ≡ take at b ++ (ys ++ drop n b)
 put-pastes {b} {c} {at} {n} {ys} p h = rw (p .stored, p .ends) (sets-eq ys b at (omega arith) ∙ append-assoc (take at b) ys (drop (at + length ys) b))
+
+-- what fits: all where there is room for all, and never more than there is room for
+module _ (b : List ℕ) (at : ℕ) (ys : List ℕ) where
+  pub fitting-all : at + length ys ≤ length b → fitting b at ys ≡ ys
+  unfolding fitting
+  fitting-all h = rw (le-leb (length ys) (length b - at) (omega arith))
+
+  pub fitting-within : at ≤ length b → at + length (fitting b at ys) ≤ length b
+  unfolding fitting
+  fitting-within h = go (leb (length ys) (length b - at)) refl
+    where
+      go : (t : Bool) → leb (length ys) (length b - at) ≡ t → at + length (fitting b at ys) ≤ length b
+      go true e = rw e (omega (arith, leb-true (length ys) (length b - at) e))
+      go false e = rw e (omega arith)
+
+  -- where a test told that they do not fit, nothing is stored; where it told that they do, there is room
+  module _ {fits : Bool} (told : fits ≡ leb (length ys) (length b - at)) where
+    pub put-unfit : not fits ≡ true → Put b b at (fitting b at ys) at
+    unfolding fitting
+    put-unfit e = rw (sym told ∙ not-true fits e) (put-none b at)
+
+    pub fits-room : at ≤ length b → not fits ≡ false → at + length ys ≤ length b
+    fits-room h e = omega (arith, leb-true (length ys) (length b - at) (sym told ∙ not-false fits e))
 
 -- a loop that stores `all` from place `from` on: `left` of it is still to be stored, from place `at` up to place `end`
 pub record Storing (before : List ℕ) (from : ℕ) (all after : List ℕ) (at : ℕ) (left : List ℕ) (end : ℕ) : Type 0 where

@@ -25,7 +25,7 @@ hex-import-spec =
     -- returns
     (λ c. imports-short _ _ _ (right (c .before)) (c .if1 .taken))
     -- put-all-data-requires
-    (λ c κs. (right (c .before .before), c .before .if1 .left))
+    (λ c κs. c .before .if1 .left)
     -- returns-2
     (λ c. import-faulty _ _ _ (subst (Counts _) (c .before .k .given .1) (c .before .before .before .check-text .ensures)))
     -- same-length
@@ -33,4 +33,4 @@ hex-import-spec =
     -- returns-3
     (λ c.
     let fits = c .before .before .before .before in
-    imports-right _ _ (right (fits .before)) (fits .if1 .left) (c .before .before .put-all-data .ensures)))
+    imports-right _ _ (right (fits .before)) (fits .if1 .left) (c .before .before .put-all-data .ensures (right (fits .before)))))

@@ -1,24 +1,32 @@
 -- `moves::put_moved` meets its contract. Assumes nothing.
+use mathlib.Core.Path.{_≡_}
+use Prim.Native.Nat.{_+_, _-_}
 use native.Mathlib.Omega.{arith}
 use borrow.Author.Needs.{needs}
 use denote.Ref.{now}
-use lib.ListN.{drop, length-take, length-drop}
-use Rattle.code.specs.Dump.{cellsOf}
+use Rattle.moves.proofs.Passing.{part-long}
 use Rattle.moves.proofs.put_moved.Statement.{statement}
 use Rattle.moves.proofs.put_moved.Tie as tie
+
+-- the part that is cut out is the head's cells
+part-is : (s : tie.Start) → let h = s .args .head in (h .start + h .count) - h .start ≡ h .count
+part-is s = omega arith
 
 pub put-moved-spec : {M : Type 1} → statement M
 put-moved-spec =
     tie.close
     (tie.spec
-    (λ c κs. search needs)
+    (λ c. search needs)
+    (λ c. search needs)
+    (λ c. search needs)
+    (λ c. search needs)
     -- put-record-requires
     (λ c κs.
-    let s = c .before .before .before .before .before in
-    let r = s .args .head in
-    let bytes = now (s .args .dump) in
-    let e = c .before .part .ensures in
-    ((s .pre .0, rw e (omega (arith, s .good, length-take (r .count) (drop (r .start) bytes), length-drop (r .start) bytes))), rw e (s .pre .1)))
+    let s = c .before .before .before .before .before .before in
+    let h = s .args .head in
+    rw (part-is s) ((s .pre .0 .0, omega (arith, s .good, part-long (now (s .args .dump)) (h .start) (h .count) (s .pre .0 .1))), s .pre .1))
     (λ c. search needs)
     -- returns
-    (λ c. rw (c .before .before .before .before .part .ensures) at (c .before .before .put-record .ensures)))
+    (λ c.
+    let s = c .before .before .before .before .before .before .before .before .before in
+    rw (part-is s) at (c .before .before .put-record .ensures)))

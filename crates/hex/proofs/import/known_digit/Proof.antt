@@ -13,6 +13,6 @@ known-digit-spec =
     -- mul-result
     (λ c. search needs)
     -- add-result
-    (λ c. omega (arith, digit-known (c .args .c) (c .pre)))
+    (λ c. search needs)
     -- returns
-    (λ c. sym (digit-known (c .args .c) (c .pre))))
+    (λ c. (λ h. sym (digit-known (c .args .c) h), omega arith)))

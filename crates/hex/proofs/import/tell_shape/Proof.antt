@@ -25,7 +25,7 @@ bytes-told c = rw (count-told c) at (bytes-are (lineOf c))
 
 end-told : (c : tie.After-end-at) → let counted = c .before .before .before in
     c .end-at .result ≡ lineEnd (drop (11 + 2 * dataCount (lineOf counted)) (lineOf counted))
-end-told c = rw (count-told (c .before .before .before)) (c .end-at .ensures)
+end-told c = rw (count-told (c .before .before .before)) (c .end-at .ensures .0)
 
 pub tell-shape-spec : {M : Type 1} → statement M
 tell-shape-spec =

@@ -16,7 +16,7 @@ use Rattle.records.specs.Source.{sourceOf}
 use Rattle.records.specs.Head.{headRecord}
 use Rattle.moves.proofs.Passing.{at-record, at-end, at-stop}
 use Rattle.moves.proofs.Heads.{head-below}
-use Rattle.moves.proofs.Storing.{movedAt, Filling, filling-begin, filling-same, filling-room, filling-next, filling-end, filling-stop}
+use Rattle.moves.proofs.Storing.{movedAt, Filling, filling-begin, filling-next, filling-end, filling-stop}
 use Rattle.moves.proofs.Keeping.{place-most, kept-long}
 use Rattle.moves.proofs.ToNew.{own-said, number-at}
 use Rattle.moves.proofs.to_new.put_records.Statement.{statement}
@@ -57,12 +57,12 @@ put-records-spec =
     Inv-loop
     μ-loop
     -- loop-holds
-    (λ c. filling-begin _ _ _ _ _ _ (c .before .before .before .before .pre .0 .0) _ _)
+    (λ c. let s = c .before .before .before .before in filling-begin _ _ _ _ _ _ (s .pre .0) _ _ (s .pre .3))
     -- locate-requires
-    (λ c κs. record { start = 0; opens = c .before .before .before .before .before .pre .0 .0 })
+    (λ c κs. record { start = 0; opens = c .before .before .before .before .before .pre .0 })
     (λ c. search needs)
     -- place-of-requires
-    (λ c κs. let s = c .before .before .before .before .before .before .before .before .before in omega (arith, s .pre .1 .0, s .pre .1 .1))
+    (λ c κs. let s = c .before .before .before .before .before .before .before .before .before in omega (arith, s .pre .1, s .pre .2))
     -- put-new-requires
     (λ c κs.
     let n = c .before .place-of .ensures in
@@ -72,10 +72,10 @@ put-records-spec =
     let d = l .before .before .before .before in
     let a = d .before .args in
     let ls = keptLayouts (a .layouts) (now (a .kept)) in
-    let serial = head-below Old _ _ _ _ _ (λ i h. omega (arith, d .shared-slice-known .given i)) (d .before .pre .0 .0) e .0 in
+    let serial = head-below Old _ _ _ _ _ (λ i h. omega (arith, d .shared-slice-known .given i)) (d .before .pre .0) e .0 in
     let most = place-most ls (saidListed (r .head .given .0 .0 .said)) in
-    let few : c .before .place-of .result < 2 ^ 63 = omega (arith, n, most, kept-long (now (a .kept)) (a .layouts), d .before .pre .1 .0) in
-    ((serial, few), rw (moved-here (c .before)) (filling-room (l .loop .inv) (d .before .pre .1 .2) _ e)))
+    let few : c .before .place-of .result < 2 ^ 63 = omega (arith, n, most, kept-long (now (a .kept)) (a .layouts), d .before .pre .1) in
+    (serial, few, step-forward Old _ _ _ e .2, l .loop .inv .inside))
     -- add-at
     (λ c. omega (arith, step-forward Old _ _ _ (here (c .before .before .before .before .before .before .before))))
     -- loop-less
@@ -89,14 +89,14 @@ put-records-spec =
     filling-next (l .loop .inv) _ (here r) (rw (moved-here n) at (p .put-new .ensures)))
     (λ c. search needs)
     -- same-length
-    (λ c. filling-same (c .before .before .before .loop .inv))
+    (λ c. c .before .before .before .loop .inv .same)
     -- returns
-    (λ c. filling-end (c .before .before .before .loop .inv) (at-end Old _ _ _ (c .before .before .locate .ensures) (c .enum-told .given .1)))
+    (λ c w h. filling-end (c .before .before .before .loop .inv) (at-end Old _ _ _ (c .before .before .locate .ensures) (c .enum-told .given .1)) h)
     (λ c. search needs)
     -- same-length-2
-    (λ c. filling-same (c .before .before .before .loop .inv))
+    (λ c. c .before .before .before .loop .inv .same)
     -- returns-2
-    (λ c.
+    (λ c w h.
     let l = c .before .before .before in
-    filling-stop (l .loop .inv) (l .before .before .before .before .before .pre .0 .1) (c .enum-told2 .given .0 .0)
+    filling-stop (l .loop .inv) w (c .enum-told2 .given .0 .0)
     (at-stop Old _ _ _ (c .before .before .locate .ensures) (c .enum-told2 .given .1))))

@@ -64,6 +64,18 @@ room-here c =
     move-room _ 13 _ (toNew (now (s .args .dump))) (now (s .args .out)) (s .pre .1 .whole) (not-many _ _ (s .pre .1) (e .if1 .left)) _ _ (long-here n)
     (c .before .refuse-length .ensures) (c .if2 .left)
 
+-- behind the list too
+rest-room : (c : tie.After-put-list) → let a = c .before .before .before .before .before .before .before .before .before .before .before .args in
+    c .put-list .result + length (numberedBy (keptLayouts (a .layouts) (now (a .kept))) (now (a .dump))) ≤ length (now (a .out))
+rest-room c =
+    let e = c .before .before .before .before .before .before in
+    let s = e .before .before .before .before .before in
+    let a = s .args in
+    let made = ap length (new-made _ _ (s .pre .1) (e .if1 .left)) in
+    let front = a .layouts ∷ numeralsOf (take (4 * a .layouts) (now (a .kept))) in
+    let both = length-append front (numberedBy (keptLayouts (a .layouts) (now (a .kept))) (now (a .dump))) in
+    omega (arith, c .put-list .ensures .ends, made, room-here (c .before .before), both)
+
 pub store-spec : {M : Type 1} → statement M
 store-spec =
     tie.close
@@ -103,24 +115,7 @@ store-spec =
     let l = c .before .before .before in
     let e = l .before .before .before .before .before .before in
     let s = e .before .before .before .before .before in
-    let a = s .args in
-    let list = l .put-list .ensures in
-    let made = ap length (new-made _ _ (s .pre .1) (e .if1 .left)) in
-    let front = a .layouts ∷ numeralsOf (take (4 * a .layouts) (now (a .kept))) in (
-      (s .pre .0, s .pre .1 .whole),
-      (
-        e .if1 .left,
-        s .pre .1 .keeps .long,
-        omega (
-          arith,
-          list .ends,
-          put-length list,
-          made,
-          room-here (l .before .before),
-          length-append front (numberedBy (keptLayouts (a .layouts) (now (a .kept))) (now (a .dump))),
-        ),
-      ),
-    ))
+    (s .pre .0, e .if1 .left, s .pre .1 .keeps .long, omega (arith, put-length (l .put-list .ensures), rest-room l)))
     (λ c. search needs)
     -- returns-3
     (λ c.
@@ -130,7 +125,8 @@ store-spec =
     let n = i .before .before in
     let e = n .before .before in
     let s = e .before .before .before .before .before in
-    let both = put-then (l .put-list .ensures) (p .put-records .ensures) in
+    let rest = p .put-records .ensures (s .pre .1 .whole) (omega (arith, put-length (l .put-list .ensures), rest-room l)) in
+    let both = put-then (l .put-list .ensures) rest in
     let passes = not-many _ _ (s .pre .1) (e .if1 .left) in
     moves-new _ _ (move-stored _ _ _ _ _ (s .pre .1 .whole) passes _ _ (long-here n) (i .before .refuse-length .ensures) (i .if2 .left)
     (rw (new-made _ _ (s .pre .1) (e .if1 .left)) both))))

@@ -2,6 +2,7 @@
 use mathlib.Core.Path.{_≡_, sym, subst, _∙_}
 use mathlib.Core.Bool.{false}
 use mathlib.Core.List.{[]}
+use Prim.Native.Nat.{_≤_}
 use borrow.Author.Needs.{needs}
 use denote.Ref.{now}
 use lib.ListN.{length}
@@ -29,6 +30,15 @@ passes-here : (c : tie.Else1) → let d = now (c .before .before .before .before
     foreign (listedIn (layoutList d)) ≡ false
 passes-here c = sym (foreign-here (c .before)) ∙ c .if1 .left
 
+-- there is room
+room-here : (c : tie.Else2) → let a = c .before .before .before .before .before .before .before .before .before .before .before .args in
+    length (toOld (now (a .dump))) ≤ length (now (a .out))
+room-here c =
+    let n = c .before in
+    let w = whole-here (n .before .before .before .before) in
+    let a = n .before .before .before .before .before .before .before .before .before .before .args in
+    move-room _ 12 _ (toOld (now (a .dump))) (now (a .out)) (w .0) (passes-here (n .before)) _ _ (w .1) (n .refuse-length .ensures) (c .if2 .left)
+
 pub move-records-spec : {M : Type 1} → statement M
 move-records-spec =
     tie.close
@@ -47,22 +57,18 @@ move-records-spec =
     let w = whole-here (e .before .before .before) in
     moves-old _ _ (move-refused _ _ _ _ _ (w .0) (passes-here e) _ _ (w .1) (c .before .refuse-length .ensures) (c .if2 .taken)))
     -- put-records-requires
-    (λ c κs.
-    let n = c .before .before in
-    let w = whole-here (n .before .before .before .before) in
-    let s = n .before .before .before .before .before .before .before .before .before .before in
-    let room = move-room _ 12 _ (toOld (now (s .args .dump))) (now (s .args .out)) (w .0) (passes-here (n .before)) _ _ (w .1) (n .refuse-length .ensures) in
-    ((s .pre, w .0), room (c .before .if2 .left)))
+    (λ c κs. c .before .before .before .before .before .before .before .before .before .before .before .before .pre)
     (λ c. search needs)
     (λ c κs. search needs)
     (λ c. search needs)
     -- returns-3
     (λ c.
     let p = c .before .before in
-    let n = p .before .before .before in
+    let e = p .before .before in
+    let n = e .before in
     let w = whole-here (n .before .before .before .before) in
-    moves-old _ _ (move-stored _ _ _ _ _ (w .0) (passes-here (n .before)) _ _ (w .1) (n .refuse-length .ensures) (p .before .before .if2 .left)
-    (p .put-records .ensures)))
+    moves-old _ _ (move-stored _ _ _ _ _ (w .0) (passes-here (n .before)) _ _ (w .1) (n .refuse-length .ensures) (e .if2 .left)
+    (p .put-records .ensures (w .0) (room-here e))))
     -- returns-4
     (λ c.
     let h = c .before .before in

@@ -1,17 +1,54 @@
 -- `moves::to_old::put_old` meets its contract. Assumes nothing.
+use mathlib.Core.Path.{_≡_}
+use mathlib.Core.List.{List}
+use Prim.Native.Nat.{ℕ, _+_, _-_, _≤_}
 use borrow.Author.Needs.{needs}
+use denote.Ref.{now}
+use lib.Dec.{leb}
+use lib.ListN.{length}
+use Rattle.code.specs.Export.{recordOf}
+use Rattle.storing.proofs.Put.{fitting-all, put-unfit, fits-room}
+use Rattle.moves.specs.Kept.{saidHead}
+use Rattle.moves.specs.Passes.{cellsAt}
+use Rattle.moves.proofs.Passing.{part-long}
 use Rattle.moves.proofs.to_old.put_old.Statement.{statement}
 use Rattle.moves.proofs.to_old.put_old.Tie as tie
+
+-- what is to be stored
+abbrev moved : tie.Start → List ℕ
+moved s = recordOf (saidHead (s .args .head .serial) (s .args .said)) (cellsAt (now (s .args .dump)) (s .args .head))
+
+-- what the test tells
+told : (c : tie.After-fits2) → let s = c .before .before .before .before in
+    c .fits2 .result ≡ leb (length (moved s)) (length (now (s .args .out)) - s .args .place)
+told c =
+    let s = c .before .before .before .before in
+    let h = s .args .head in
+    c .fits2 .ensures (cellsAt (now (s .args .dump)) h) (part-long (now (s .args .dump)) (h .start) (h .count) (s .pre .1))
+
+room : (c : tie.Else1) → let s = c .before .before .before .before .before in s .args .place + length (moved s) ≤ length (now (s .args .out))
+room c =
+    let s = c .before .before .before .before .before in
+    fits-room (now (s .args .out)) (s .args .place) (moved s) (told (c .before)) (s .pre .2) (c .if1 .left)
 
 pub put-old-spec : {M : Type 1} → statement M
 put-old-spec =
     tie.close
     (tie.spec
-    -- slice-aggregate-put-moved
+    (λ c. search needs)
+    (λ c. search needs)
+    (λ c κs. search needs)
+    -- returns
+    (λ c. put-unfit _ _ (moved (c .before .before .before .before .before)) (told (c .before)) (c .if1 .taken))
     (λ c. search needs)
     -- put-moved-requires
-    (λ c κs. search needs)
-    -- same-length
+    (λ c κs.
+    let e = c .before .before in
+    let s = e .before .before .before .before .before in
+    ((s .pre .0, s .pre .1), room e))
     (λ c. search needs)
-    -- returns
-    (λ c. c .before .before .put-moved .ensures))
+    -- returns-2
+    (λ c.
+    let e = c .before .before .before .before .before in
+    let s = e .before .before .before .before .before in
+    rw (fitting-all _ _ (moved s) (room e)) (c .before .before .put-moved .ensures)))

@@ -8,7 +8,6 @@ use denote.Ref.{now}
 use lib.ListN.{length}
 use Rattle.code.specs.declared.Kind.the-variants.{New}
 use Rattle.code.specs.Lists.{Below}
-use Rattle.code.specs.Export.{recordOf}
 use Rattle.code.specs.Dump.{ownLayouts, taken, step, cellsOf}
 use Rattle.code.specs.NewDump.{entryHead}
 use Rattle.code.proofs.Walk.{step-forward}
@@ -19,7 +18,7 @@ use Rattle.moves.specs.Kept.{saidHead, SaysOld}
 use Rattle.moves.specs.Passes.{oldHead, cellsAt}
 use Rattle.moves.proofs.Passing.{at-record, at-end, at-stop}
 use Rattle.moves.proofs.Heads.{head-below}
-use Rattle.moves.proofs.Storing.{Filling, filling-begin, filling-same, filling-room, filling-next, filling-end, filling-stop}
+use Rattle.moves.proofs.Storing.{Filling, filling-begin, filling-next, filling-end, filling-stop}
 use Rattle.moves.proofs.ToOld.{none-says, old-said, old-head, put-same}
 use Rattle.moves.proofs.to_old.put_records.Statement.{statement}
 use Rattle.moves.proofs.to_old.put_records.Tie as tie
@@ -57,9 +56,9 @@ put-records-spec =
     -- loop-holds
     (λ c.
     let s = c .before .before .before .before in
-    (filling-begin _ _ _ _ _ _ (s .pre .0 .0) _ 0, subst (SaysOld _) (sym (c .say-none .ensures)) (none-says _ (places-few New _ _ (omega arith)))))
+    (filling-begin _ _ _ _ _ _ (s .pre) _ 0 (omega arith), subst (SaysOld _) (sym (c .say-none .ensures)) (none-says _ (places-few New _ _ (omega arith)))))
     -- locate-requires
-    (λ c κs. let s = c .before .before .before .before .before in record { start = s .args .start; opens = s .pre .0 .0 })
+    (λ c κs. let s = c .before .before .before .before .before in record { start = s .args .start; opens = s .pre })
     (λ c. search needs)
     -- renew-requires
     (λ c κs. c .before .before .before .before .loop .inv .1)
@@ -68,11 +67,8 @@ put-records-spec =
     let h = c .before .before .before in
     let l = h .before .before .before in
     let s = l .before .before .before .before in
-    let d = now (s .before .args .dump) in
-    let same = said-here (c .before) in
-    let low = head-below New _ _ _ _ _ (λ i h. omega (arith, s .shared-slice-known .given i)) (s .before .pre .0 .0) (here h) in
-    let room = filling-room (l .loop .inv .0) (omega (arith, s .before .pre .1, ap length (old-said d))) _ (here h) in
-    (subst (Below (2 ^ 63)) (sym same) low, omega (arith, room, ap (λ n. length (recordOf n (cellsAt d (h .head .given .0 .0)))) same)))
+    let low = head-below New _ _ _ _ _ (λ i h. omega (arith, s .shared-slice-known .given i)) (s .before .pre) (here h) in
+    (subst (Below (2 ^ 63)) (sym (said-here (c .before))) low, step-forward New _ _ _ (here h) .2, l .loop .inv .0 .inside))
     -- add-at
     (λ c. omega (arith, step-forward New _ _ _ (here (c .before .before .before .before .before .before .before))))
     -- loop-less
@@ -86,16 +82,18 @@ put-records-spec =
     (filling-next (h .before .before .before .loop .inv .0) _ (here h) made, p .before .before .renew .ensures .1))
     (λ c. search needs)
     -- same-length
-    (λ c. filling-same (c .before .before .before .loop .inv .0))
+    (λ c. c .before .before .before .loop .inv .0 .same)
     -- returns
-    (λ c.
+    (λ c w h.
+    let l = c .before .before .before in
     let end = at-end New _ _ _ (c .before .before .locate .ensures) (c .enum-told .given .1) in
-    rw (old-said _) at (filling-end (c .before .before .before .loop .inv .0) end))
+    let said = old-said (now (l .before .before .before .before .before .args .dump)) in
+    rw said at (filling-end (l .loop .inv .0) end (omega (arith, h, ap length said))))
     (λ c. search needs)
     -- same-length-2
-    (λ c. filling-same (c .before .before .before .loop .inv .0))
+    (λ c. c .before .before .before .loop .inv .0 .same)
     -- returns-2
-    (λ c.
+    (λ c w h.
     let l = c .before .before .before in
-    rw (old-said _) at (filling-stop (l .loop .inv .0) (l .before .before .before .before .before .pre .0 .1) (c .enum-told2 .given .0 .0)
+    rw (old-said _) at (filling-stop (l .loop .inv .0) w (c .enum-told2 .given .0 .0)
     (at-stop New _ _ _ (c .before .before .locate .ensures) (c .enum-told2 .given .1)))))

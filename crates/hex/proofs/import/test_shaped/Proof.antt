@@ -1,4 +1,4 @@
--- `hex::import::judge_shaped` meets its contract. Assumes nothing.
+-- `hex::import::test_shaped` meets its contract. Assumes nothing.
 use mathlib.Core.Path.{_≡_, sym, _∙_}
 use mathlib.Core.Bool.{false}
 use mathlib.Core.List.{List, []}
@@ -10,8 +10,8 @@ use denote.Ref.{now}
 use Rattle.code.specs.Hex.{ladenEnd, wrongSum, displaced, lineRefusal}
 use Rattle.code.proofs.HexLines.{type-is, address-is, refuse-laden, refuse-sum, refuse-place, refuse-type, line-passes}
 use Rattle.hex.proofs.Inward.{LineNumbers, laden-is, sum-is, displaced-is, measured-room, measured-spans}
-use Rattle.hex.proofs.import.judge_shaped.Statement.{statement}
-use Rattle.hex.proofs.import.judge_shaped.Tie as tie
+use Rattle.hex.proofs.import.test_shaped.Statement.{statement}
+use Rattle.hex.proofs.import.test_shaped.Tie as tie
 
 -- the line's numbers where its type and address are read
 numbered : (c : tie.After-byte-at3) → let a = c .before .before .before .before .args in
@@ -47,8 +47,8 @@ passes c =
     let n = numbered (bare-here .before .before) in
     line-passes _ _ (n .measured .shaped) (bare bare-here) (summed summed-here) (placed (c .before)) (omega (arith, n .type-told))
 
-pub judge-shaped-spec : {M : Type 1} → statement M
-judge-shaped-spec =
+pub test-shaped-spec : {M : Type 1} → statement M
+test-shaped-spec =
     tie.close
     (tie.spec
     -- byte-at-requires

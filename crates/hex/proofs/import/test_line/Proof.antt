@@ -1,15 +1,15 @@
--- `hex::import::judge_line` meets its contract. Assumes nothing.
+-- `hex::import::test_line` meets its contract. Assumes nothing.
 use mathlib.Core.Path.{subst}
 use native.Mathlib.Omega.{arith}
 use borrow.Author.Needs.{needs}
 use denote.Ref.{now}
 use Rattle.code.proofs.HexLines.{refuse-none, refuse-shape}
 use Rattle.hex.specs.Answers.{TellsShape}
-use Rattle.hex.proofs.import.judge_line.Statement.{statement}
-use Rattle.hex.proofs.import.judge_line.Tie as tie
+use Rattle.hex.proofs.import.test_line.Statement.{statement}
+use Rattle.hex.proofs.import.test_line.Tie as tie
 
-pub judge-line-spec : {M : Type 1} → statement M
-judge-line-spec =
+pub test-line-spec : {M : Type 1} → statement M
+test-line-spec =
     tie.close
     (tie.spec
     -- returns
@@ -20,7 +20,7 @@ judge-line-spec =
     (λ c. search needs)
     -- enum-known-l
     (λ c. search needs)
-    -- judge-shaped-requires
+    -- test-shaped-requires
     (λ c κs. (subst (TellsShape _) (c .before .l .given .1) (c .before .before .before .tell-shape .ensures), omega arith))
     -- returns-2
     (λ c. refuse-shape _ _ (omega arith) (subst (TellsShape _) (c .enum-told .given .1) (c .before .before .tell-shape .ensures)))
