@@ -1,28 +1,29 @@
 -- Document 02, §7: "Equal ranges must equal form 1 but for the order of refusals."
-use Prim.Native.Nat.{ℕ, zero, suc, _-_, _^_, _≤_, _<_}
+use Prim.Native.Nat.{ℕ, zero, suc, _^_, _≤_, _<_}
 use mathlib.Core.Path.{_≡_, refl, sym, ap, _∙_}
 use mathlib.Core.Logic.{_⊎_, inl, inr}
-use mathlib.Core.Bool.{Bool, true, false, true≢false, cond, _&&_}
+use mathlib.Core.Bool.{Bool, true, false, true≢false, _&&_}
 use mathlib.Core.List.{List, [], _∷_}
 use native.Mathlib.Omega.{arith}
 use native.Mathlib.Decide.{ℕ-discrete}
 use lib.Arith.{lt-of-le-ne}
-use lib.Dec.{leb, eqb}
-use lib.ListN.{length, getD, replicate, length-replicate, getD-replicate}
+use lib.Dec.{leb}
+use lib.ListN.{getD, replicate, length-replicate, getD-replicate}
 use lib.Seq.{ext-getD}
 use borrow.Author.Tests.{le-leb, lt-leb, eq-eqb, ne-eqb}
 use Rattle.code.specs.declared.Shape.{Shape}
-use Rattle.code.specs.Shape.{single, firstOf, rangesDue, given, rangesOf, orderOf, allRanges, outside, misfit, granted, countsOf, widthOf}
+use Rattle.code.specs.Shape.{single, rangesDue, given, rangesOf, orderOf, allRanges, outside, widthOf}
 use Rattle.code.specs.Cells.{listed, sound, opened, turned}
 use Rattle.code.specs.Field.{Reading, blank, reads, miscounted, beyond}
 use Rattle.code.specs.Run.{kept}
 use Rattle.code.proofs.Run.{accepted}
-use Rattle.code.specs.Calls.{readCells, writeCells, answer, passes, leaves, layoutRefusal, layoutReply, fieldRead, fieldWrite, unsound, numberless, miscounts, exceeds, spent, taker, overRange, overTaker, readRefusal, readReply, refusalIn}
+use Rattle.code.specs.Calls.{readCells, answer, passes, leaves, layoutRefusal, layoutReply, fieldRead, fieldWrite, miscounts, exceeds, spent, taker, overRange, readReply, refusalIn}
 use Rattle.code.specs.Calls.{writeRefusal, madeAt, writeReply, writeLeaves}
-use Rattle.code.proofs.Tests.{le-or-lt, clash, and-true, and-false}
-use Rattle.code.proofs.Bytes.{triedCells}
-use Rattle.code.proofs.LayoutCall.{given-length, given-at, range-listed, range-single, bounded, layout-which}
-use Rattle.code.proofs.WriteCall.{write-barred, none-refused, first-write, next-write, write-made, write-unsound, write-large, write-miscounted, write-beyond, write-spent, write-late, read-most, refused-not, leaves-is}
+use Rattle.code.proofs.Tests.{le-or-lt, and-true, and-false}
+use Rattle.code.proofs.SameCode as Code
+use Rattle.code.proofs.SameCode.{SameCode}
+use Rattle.code.proofs.LayoutCall.{given-length, given-at, range-single, bounded}
+use Rattle.code.proofs.WriteCall.{write-barred, none-refused, first-write, next-write, write-made, write-unsound, write-large, write-miscounted, write-beyond, write-spent, write-late, read-most, refused-not}
 
 -- a shape of form 2 whose t ranges are all v, and the one of form 1 with that range
 module _ (s : Shape) (v : ℕ) (two : s .form ≡ 2) (many : s .count ≡ s .t) (all : (i : ℕ) → i < s .t → getD (s .v) i 0 ≡ v) where
@@ -66,54 +67,35 @@ module _ (s : Shape) (v : ℕ) (two : s .form ≡ 2) (many : s .count ≡ s .t) 
     | inr h ↦ rw (le-leb (s .form) 2 (omega arith), lt-leb 2 (s .t) h, and-false)
   ]
 
-  first-same : firstOf s ≡ firstOf one
-  unfolding firstOf
-  first-same = rw (ne-eqb (s .form) 0 (λ z. omega arith))
-
-  granted-same : (g : ℕ) → granted s g ≡ granted one g
-  unfolding granted
-  granted-same g = rw (first-same, ranges-same)
+  -- so both have one code
+  one-code : SameCode s one
+  one-code = record {
+    m-same = refl;
+    t-same = refl;
+    blank-same = ne-eqb (s .form) 0 (λ z. omega arith);
+    outside-same = outside-same;
+    ranges-same = ranges-same;
+  }
 
   -- the list granted, and the refusals
   pub layout-same : (g : ℕ) → layoutReply s g ≡ layoutReply one g
-  unfolding layoutReply layoutRefusal
-  layout-same g = rw (outside-same g, granted-same g)
+  layout-same = Code.layout-same s one one-code
 
   refusal-same : layoutRefusal s 256 ≡ layoutRefusal one 256
-  unfolding layoutRefusal
-  refusal-same = rw (outside-same 256, granted-same 256)
-
-  counts-same : countsOf s ≡ countsOf one
-  unfolding countsOf
-  counts-same = granted-same 256
+  refusal-same = Code.refusal-same s one one-code 256
 
   width-same : widthOf s ≡ widthOf one
-  unfolding widthOf
-  width-same = rw counts-same
+  width-same = Code.width-same s one one-code
 
   field-same : (bs : List ℕ) → fieldRead s bs ≡ fieldRead one bs
-  unfolding fieldRead orderOf
-  field-same bs = rw (first-same, counts-same, ranges-same)
-
-  unsound-same : (bs : List ℕ) → unsound s bs ≡ unsound one bs
-  unfolding unsound orderOf widthOf
-  unsound-same bs = rw counts-same
-
-  numberless-same : (r : Reading) → numberless s r ≡ numberless one r
-  unfolding numberless
-  numberless-same blank = rw (ne-eqb (s .form) 0 (λ z. omega arith))
-  numberless-same (reads i x) = refl
-  numberless-same (miscounted i u) = refl
-  numberless-same (beyond i) = refl
+  field-same = Code.field-same s one one-code
 
   -- the readings
   pub read-same : (bs : List ℕ) → readReply s bs ≡ readReply one bs
-  unfolding readReply readRefusal
-  read-same bs = rw (outside-same 256, counts-same, unsound-same bs, field-same bs, numberless-same (fieldRead one bs))
+  read-same = Code.read-same s one one-code
 
   write-same : (x : ℕ) (bs : List ℕ) → fieldWrite s x bs ≡ fieldWrite one x bs
-  unfolding fieldWrite orderOf
-  write-same x bs = rw (first-same, counts-same, ranges-same)
+  write-same = Code.write-same s one one-code
 
   -- A write is accepted by both or by neither.
   passes-same : (x : ℕ) (bs : List ℕ) → passes (writeRefusal s x bs) ≡ passes (writeRefusal one x bs)

@@ -1,18 +1,19 @@
 -- What the export calls stored walks back: records one after the other are an old dump, and behind a count and as many layouts a new one.
-use Prim.Native.Nat.{ℕ, zero, suc, _-_, _^_, _≤_, _<_}
+use Prim.Native.Nat.{ℕ, suc, _-_, _^_, _≤_, _<_}
 use mathlib.Core.Path.{_≡_, refl, sym, ap, _∙_}
 use mathlib.Core.Bool.{Bool, true, false, cond}
 use mathlib.Core.List.{List, [], _∷_, _++_, map}
 use native.Mathlib.Omega.{arith}
 use lib.Dec.{ltb, eqb}
-use lib.ListN.{length, getD, take, length-map}
+use lib.ListN.{length, getD, take, drop, length-map, List·getD-map}
 use borrow.Author.Tests.{ltb-false, le-leb}
 use Rattle.code.specs.declared.Kind.the-variants.{New}
 use Rattle.code.specs.declared.Shape.{Shape}
 use Rattle.code.specs.Lists.{Below}
-use Rattle.code.specs.Shape.{shaped, given, outside, misfit, countsOf}
+use Rattle.code.specs.Shape.{single, shaped, rangesDue, given, outside, misfit, countsOf}
 use Rattle.code.proofs.LayoutCall.{Bounds}
-use Rattle.code.specs.Calls.{filled, unsound, lengthIn, refusalIn}
+use Rattle.code.specs.Cells.{listed}
+use Rattle.code.specs.Calls.{unsound, lengthIn, refusalIn}
 use Rattle.code.specs.LayoutList.{Listed, listedNumbers, unlisted, listedShape, listedOf, layoutsOf, uncounted}
 use Rattle.code.specs.Export.{recordOf, Exporting, oldExport, newExport, exportRefusal, exportReply, exportLeaves}
 use Rattle.code.specs.Dump.{Source, ownLayouts, listedLayouts, walk}
@@ -21,9 +22,10 @@ use Rattle.code.proofs.Tests.{clash, and-false}
 use Rattle.code.proofs.LayoutCall.{given-length, given-at, outside-within, passed}
 use Rattle.code.proofs.Stores.{tests-refuse, reply-told, accepted, stored-made}
 use Rattle.code.proofs.Parsed.{Listing, Sound, AllSound}
-use Rattle.code.proofs.LayoutLists.{Listable, AllListable, layouts-append, count-byte}
+use Rattle.code.proofs.LayoutLists.{Listable, AllListable, single-shape, layouts-append, count-byte}
+use Rattle.code.proofs.Tidied.{tidied, read-tidied, numbers-tidied}
 use Rattle.code.proofs.Told.{toldOf, toldBy, told-by}
-use Rattle.code.proofs.Dumps.{fronted, Sayable, Reads, dump-parsed}
+use Rattle.code.proofs.Dumps.{kindFor, fronted, Sayable, Reads, dump-parsed}
 
 -- An export that is accepted: what its tests tell, and what a caller takes of the output.
 module _ (x : Exporting) (cells out : List ℕ) where
@@ -128,12 +130,62 @@ unfolding entryHead
 export-head ownLayouts e = refl
 export-head (listedLayouts ls) e = refl
 
-pub export-sound : (source : Source) (e : Entry) (out : List ℕ) → Exports (exportOf source e) (e .cells) out → Listing source e → Sound source e
-unfolding entryHead
-export-sound ownLayouts e out x l =
+-- What an export says of its layout, which is what a dump can tell: m, t and v in an old record, so that the form is 0 and one range is given; in a new one the number of
+-- a listed layout with the same form, m, t and ranges given. What stands behind these ranges in the shape is not looked at.
+abbrev pub Said : Source → Entry → Type 0
+Said ownLayouts e = (e .layout ≡ 0) × (e .shape .form ≡ 0) × (e .shape .count ≡ 1)
+Said (listedLayouts ls) e = (e .layout < length ls) × (listedOf (e .shape) ≡ getD ls (e .layout) unlisted)
+
+-- an entry as a dump gives it back: its shape has 0 behind the ranges given
+abbrev pub asSaid : Entry → Entry
+asSaid e = record { serial = e .serial; layout = e .layout; shape = tidied (e .shape); cells = e .cells }
+
+-- an accepted export is of a shape within its bounds
+pub export-bounded : (source : Source) (e : Entry) (out : List ℕ) → Said source e → Exports (exportOf source e) (e .cells) out → Bounds (e .shape)
+unfolding rangesDue
+export-bounded ownLayouts e out said x =
     let b = x .bounds in
-    record { small = (x .early, (omega (arith, b .m-high), (omega (arith, b .t-high), (omega (arith, b .v-high 0 (omega arith)), tt)))); listing = l }
-export-sound (listedLayouts ls) e out x l = record { small = (x .early, (omega (arith, ltb-false 63 (e .layout) (x .listed)), tt)); listing = l }
+    let form = said .1 in
+    record {
+      form-high = omega arith;
+      m-low = b .m-low;
+      m-high = b .m-high;
+      t-low = b .t-low;
+      t-high = b .t-high;
+      due = rw form (said .2);
+      v-low = λ i l. let z : i ≡ 0 = omega (arith, said .2) in rw z (b .v-low 0 (omega arith));
+      v-high = λ i l. let z : i ≡ 0 = omega (arith, said .2) in rw z (b .v-high 0 (omega arith));
+    }
+export-bounded (listedLayouts ls) e out said x = x .bounds
+
+-- its head is that of the entry as the dump gives it back, which the dump can say
+pub head-said : (source : Source) (e : Entry) → Bounds (e .shape) → entryHead source (asSaid e) ≡ entryHead source e
+unfolding entryHead
+head-said ownLayouts e b = ap (λ (numbers : List ℕ). e .serial ∷ drop 1 numbers) (numbers-tidied (e .shape) b)
+head-said (listedLayouts ls) e b = refl
+
+listing-said : (source : Source) (e : Entry) → Said source e → Listing source (asSaid e)
+unfolding listedOf
+listing-said ownLayouts e said =
+    let s = e .shape in
+    let plain : Shape → Shape = λ y. shaped (y .m) (y .t) (getD (y .v) 0 0) in
+    let old = ap (λ form. single form (s .m) (s .t) (getD (given s) 0 0)) (said .1) in
+    let q : tidied s ≡ shaped (s .m) (s .t) (getD (given s) 0 0) = single-shape (listedOf s) (given-length s ∙ said .2) ∙ old in
+    (said .0, q ∙ sym (ap plain q))
+listing-said (listedLayouts ls) e said = (said .0, ap listedShape (said .1))
+
+small-said : (source : Source) (e : Entry) (out : List ℕ) → Exports (exportOf source e) (e .cells) out → Below (2 ^ 63) (entryHead source e)
+unfolding entryHead
+small-said ownLayouts e out x =
+    let b = x .bounds in
+    (x .early, (omega (arith, b .m-high), (omega (arith, b .t-high), (omega (arith, b .v-high 0 (omega arith)), tt))))
+small-said (listedLayouts ls) e out x = (x .early, (omega (arith, ltb-false 63 (e .layout) (x .listed)), tt))
+
+pub export-sound : (source : Source) (e : Entry) (out : List ℕ) → Exports (exportOf source e) (e .cells) out → Said source e → Sound source (asSaid e)
+export-sound source e out x said = record {
+  small = rw (head-said source e (export-bounded source e out said x)) (small-said source e out x);
+  listing = listing-said source e said;
+}
 
 -- exports one after the other, each with its output: all are accepted, of layouts that the dump can say
 abbrev pub Calls : Type 0
@@ -142,7 +194,7 @@ Calls = List (Entry × List ℕ)
 abbrev pub AllExported : Source → Calls → Type 0
 AllExported source [] = Unit {0}
 AllExported source (c ∷ cs) =
-    (refusalIn (exportReply (exportOf source (c .0)) (c .0 .cells) (c .1)) ≡ 0) × Listing source (c .0) × AllExported source cs
+    (refusalIn (exportReply (exportOf source (c .0)) (c .0 .cells) (c .1)) ≡ 0) × Said source (c .0) × AllExported source cs
 
 abbrev pub exportedOf : Calls → List Entry
 exportedOf calls = map (λ (c : Entry × List ℕ). c .0) calls
@@ -151,28 +203,56 @@ abbrev pub storedRecords : Source → Calls → List ℕ
 storedRecords source [] = []
 storedRecords source (c ∷ cs) = storedRecord (exportOf source (c .0)) (c .0 .cells) (c .1) ++ storedRecords source cs
 
-exported-sound : (source : Source) (calls : Calls) → AllExported source calls → AllSound source (exportedOf calls)
-exported-sound source [] h = tt
-exported-sound source (c ∷ cs) h =
-    (export-sound source (c .0) (c .1) (export-told (exportOf source (c .0)) (c .0 .cells) (c .1) (h .0)) (h .1), exported-sound source cs (h .2))
+-- what is known of one of them
+module _ (source : Source) (e : Entry) (out : List ℕ) (h : refusalIn (exportReply (exportOf source e) (e .cells) out) ≡ 0) (said : Said source e) where
+  told : Exports (exportOf source e) (e .cells) out
+  told = export-told (exportOf source e) (e .cells) out h
 
-exported-records : (source : Source) (calls : Calls) → AllExported source calls → storedRecords source calls ≡ recordsOf source (exportedOf calls)
+  pub accepted-bounded : Bounds (e .shape)
+  accepted-bounded = export-bounded source e out said told
+
+  pub accepted-sound : Sound source (asSaid e)
+  accepted-sound = export-sound source e out told said
+
+  pub accepted-stored : storedRecord (exportOf source e) (e .cells) out ≡ recordOf (entryHead source (asSaid e)) (e .cells)
+  accepted-stored =
+      stored-record (exportOf source e) (e .cells) out h
+      ∙ ap (λ head. recordOf head (e .cells)) (export-head source e ∙ sym (head-said source e accepted-bounded))
+
+exported-sound : (source : Source) (calls : Calls) → AllExported source calls → AllSound source (map asSaid (exportedOf calls))
+exported-sound source [] h = tt
+exported-sound source (c ∷ cs) h = (accepted-sound source (c .0) (c .1) (h .0) (h .1), exported-sound source cs (h .2))
+
+exported-records : (source : Source) (calls : Calls) → AllExported source calls →
+    storedRecords source calls ≡ recordsOf source (map asSaid (exportedOf calls))
 unfolding recordsOf
 exported-records source [] h = refl
-exported-records source (c ∷ cs) h =
-    let x = exportOf source (c .0) in
-    let one = stored-record x (c .0 .cells) (c .1) (h .0) ∙ ap (λ l. recordOf l (c .0 .cells)) (export-head source (c .0)) in
-    cc (one, exported-records source cs (h .2))
+exported-records source (c ∷ cs) h = cc (accepted-stored source (c .0) (c .1) (h .0) (h .1), exported-records source cs (h .2))
 
--- a dump of exported records walks back to them
-pub exports-walk : (source : Source) (calls : Calls) → Sayable source → AllExported source calls →
-    length (fronted source (storedRecords source calls)) ≤ 65536 → Reads source (exportedOf calls) (fronted source (storedRecords source calls))
-exports-walk source calls s h =
-    rw (exported-records source calls h) (dump-parsed source (exportedOf calls) s (exported-sound source calls h))
+-- read by the shapes that the dump gives back or by those exported, they tell the same
+told-said : (source : Source) (calls : Calls) → AllExported source calls → toldBy (map asSaid (exportedOf calls)) ≡ toldBy (exportedOf calls)
+unfolding toldBy
+told-said source [] h = refl
+told-said source (c ∷ cs) h =
+    let s = c .0 .shape in
+    let b = accepted-bounded source (c .0) (c .1) (h .0) (h .1) in
+    cc (numbers-tidied s b, read-tidied s b (c .0 .cells), told-said source cs (h .2))
 
--- what stands behind the ranges of a shape is 0
-abbrev pub Tidy : Shape → Type 0
-Tidy s = listedShape (listedOf s) ≡ s
+-- A dump of exported records.
+module _ (source : Source) (calls : Calls) (s : Sayable source) (h : AllExported source calls)
+    (short : length (fronted source (storedRecords source calls)) ≤ 65536) where
+  -- it walks back to them
+  pub exports-walk : Reads source (map asSaid (exportedOf calls)) (fronted source (storedRecords source calls))
+  exports-walk =
+      let records = exported-records source calls h in
+      rw records (dump-parsed source (map asSaid (exportedOf calls)) s (exported-sound source calls h) (rw records at short))
+
+  -- so reading a record's cells gives what reading the exported cells by the exported shape gives
+  pub exports-told :
+      let dump = fronted source (storedRecords source calls) in toldOf dump (walk (kindFor source) dump) ≡ toldBy (exportedOf calls)
+  exports-told =
+      let dump = fronted source (storedRecords source calls) in
+      told-by dump (walk (kindFor source) dump) ∙ ap toldBy (exports-walk .parsed) ∙ told-said source calls h
 
 -- exports of layouts, each with its output
 abbrev pub LayoutCalls : Type 0
@@ -180,7 +260,7 @@ LayoutCalls = List (Shape × List ℕ)
 
 abbrev pub AllLayouts : LayoutCalls → Type 0
 AllLayouts [] = Unit {0}
-AllLayouts (c ∷ cs) = (refusalIn (layoutExportReply (c .0) (c .1)) ≡ 0) × Tidy (c .0) × AllLayouts cs
+AllLayouts (c ∷ cs) = (refusalIn (layoutExportReply (c .0) (c .1)) ≡ 0) × AllLayouts cs
 
 abbrev pub shapesOf : LayoutCalls → List Shape
 shapesOf calls = map (λ (c : Shape × List ℕ). c .0) calls
@@ -194,19 +274,17 @@ exported-layouts : (calls : LayoutCalls) → AllLayouts calls →
 unfolding layoutsOf
 exported-layouts [] h = (tt, refl)
 exported-layouts (c ∷ cs) h =
-    let ih = exported-layouts cs (h .2) in
+    let ih = exported-layouts cs (h .1) in
     let l = listedOf (c .0) in (
       (exported-listable (c .0) (c .1) (h .0), ih .0),
       rw (stored-layout (c .0) (c .1) (h .0), ih .1) (sym (layouts-append (l ∷ []) (map listedOf (shapesOf cs)))),
     )
 
-shape-at : (calls : LayoutCalls) (i : ℕ) → AllLayouts calls → listedShape (getD (map listedOf (shapesOf calls)) i unlisted) ≡ getD (shapesOf calls) i (shaped 0 0 0)
-unfolding listedShape filled
-shape-at [] i h = refl
-shape-at (c ∷ cs) zero h = h .1
-shape-at (c ∷ cs) (suc i) h = shape-at cs i (h .2)
+layout-at : (shapes : List Shape) (i : ℕ) → getD (map listedOf shapes) i unlisted ≡ listedOf (getD shapes i (shaped 0 0 0))
+unfolding listedOf given listed
+layout-at shapes i = List·getD-map listedOf shapes i (shaped 0 0 0)
 
--- A new dump of exports: a count byte, so many exported layouts, and behind them records that were exported with the shape of the layout of their number.
+-- A new dump of exports: a count byte, so many exported layouts, and behind them records that were exported with the number of a layout and its form, m, t and ranges.
 module _ (layoutCalls : LayoutCalls) where
   abbrev pub exportedList : List Listed
   exportedList = map listedOf (shapesOf layoutCalls)
@@ -218,25 +296,28 @@ module _ (layoutCalls : LayoutCalls) where
   AllNumbered [] = Unit {0}
   AllNumbered (c ∷ cs) =
       (refusalIn (exportReply (newExport (c .0 .serial) (c .0 .layout) (c .0 .shape)) (c .0 .cells) (c .1)) ≡ 0)
-      × (c .0 .layout < length layoutCalls) × (c .0 .shape ≡ getD (shapesOf layoutCalls) (c .0 .layout) (shaped 0 0 0)) × AllNumbered cs
+      × (c .0 .layout < length layoutCalls)
+      × (listedOf (c .0 .shape) ≡ listedOf (getD (shapesOf layoutCalls) (c .0 .layout) (shaped 0 0 0))) × AllNumbered cs
 
   long : length exportedList ≡ length layoutCalls
   long = length-map (shapesOf layoutCalls) listedOf ∙ length-map layoutCalls (λ (c : Shape × List ℕ). c .0)
 
-  all-exported : AllLayouts layoutCalls → (cs : Calls) → AllNumbered cs → AllExported (listedLayouts exportedList) cs
-  all-exported ls [] h = tt
-  all-exported ls (c ∷ cs) h = (h .0, (omega (arith, long, h .1), h .2 ∙ sym (shape-at layoutCalls (c .0 .layout) ls)), all-exported ls cs (h .3))
+  all-exported : (cs : Calls) → AllNumbered cs → AllExported (listedLayouts exportedList) cs
+  all-exported [] h = tt
+  all-exported (c ∷ cs) h =
+      (h .0, (omega (arith, long, h .1), h .2 ∙ sym (layout-at (shapesOf layoutCalls) (c .0 .layout))), all-exported cs (h .3))
 
   module _ (calls : Calls) (few : length layoutCalls ≤ 64) (ls : AllLayouts layoutCalls) (h : AllNumbered calls) (short : length (exportedDump calls) ≤ 65536) where
-    -- it opens with the layouts and walks to the records: each with its serial, number, shape and cells
-    pub new-exports-walk : Reads (listedLayouts exportedList) (exportedOf calls) (exportedDump calls)
-    new-exports-walk =
-        let source : Source = listedLayouts exportedList in
-        let l = exported-layouts layoutCalls ls in
-        let few′ : length exportedList ≤ 64 = omega (arith, long) in
-        let front : fronted source (storedRecords source calls) ≡ exportedDump calls = rw (count-byte (length exportedList) few′, long, l .1) in
-        rw front at (exports-walk source calls (l .0, few′) (all-exported ls calls h) (rw front short))
+    sayable : Sayable (listedLayouts exportedList)
+    sayable = (exported-layouts layoutCalls ls .0, omega (arith, long))
 
-    -- so reading a record's cells gives what reading the exported cells gives
+    dump-is : let source : Source = listedLayouts exportedList in fronted source (storedRecords source calls) ≡ exportedDump calls
+    dump-is = rw (count-byte (length exportedList) (sayable .1), long, exported-layouts layoutCalls ls .1)
+
+    -- it opens with the layouts and walks to the records: each with its serial, number, cells and the shape as a dump gives it back
+    pub new-exports-walk : Reads (listedLayouts exportedList) (map asSaid (exportedOf calls)) (exportedDump calls)
+    new-exports-walk = rw dump-is at (exports-walk (listedLayouts exportedList) calls sayable (all-exported calls h) (rw dump-is short))
+
+    -- so reading a record's cells gives what reading the exported cells by the exported shape gives
     pub new-exports-told : toldOf (exportedDump calls) (walk New (exportedDump calls)) ≡ toldBy (exportedOf calls)
-    new-exports-told = told-by (exportedDump calls) (walk New (exportedDump calls)) ∙ ap toldBy (new-exports-walk .parsed)
+    new-exports-told = rw dump-is at (exports-told (listedLayouts exportedList) calls sayable (all-exported calls h) (rw dump-is short))

@@ -157,6 +157,19 @@ module _ (s : Shape) (b : Bounds s) where
   unfolding rangesDue
   single-due not-two = b .due ∙ rw (ne-eqb (s .form) 2 not-two)
 
+  -- there is a range at least, and no more than places for them
+  pub count-some : 0 < s .count
+  count-some = elim (ℕ-discrete (s .form) 2) [
+    | yes two ↦ omega (arith, listed-due two, b .t-low)
+    | no not-two ↦ omega (arith, single-due not-two)
+  ]
+
+  pub count-few : s .count ≤ 16
+  count-few = elim (ℕ-discrete (s .form) 2) [
+    | yes two ↦ omega (arith, listed-due two, b .t-high)
+    | no not-two ↦ omega (arith, single-due not-two)
+  ]
+
   pub ranges-length : length (rangesOf s) ≡ s .t
   unfolding rangesOf
   ranges-length = elim (ℕ-discrete (s .form) 2) [

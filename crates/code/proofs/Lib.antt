@@ -14,6 +14,7 @@ pub mod Wits
 pub mod Cells
 pub mod Bytes
 pub mod LayoutCall
+pub mod SameCode
 pub mod ReadCall
 pub mod WriteCall
 pub mod Unread
@@ -30,6 +31,7 @@ pub mod ByteLists
 pub mod Walk
 pub mod Parsed
 pub mod LayoutLists
+pub mod Tidied
 pub mod Dumps
 pub mod Told
 pub mod FirstUse

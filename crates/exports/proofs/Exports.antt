@@ -1,16 +1,16 @@
 -- The tests of an export behind its first, for either kind of dump.
 use Prim.Native.Nat.{ℕ, _^_, _≤_, _<_}
 use mathlib.Core.Path.{_≡_, ap, _∙_}
-use mathlib.Core.Bool.{Bool, true, false, cond}
+use mathlib.Core.Bool.{true, false}
 use mathlib.Core.List.{List, [], _∷_, _++_, append-nil}
 use native.Mathlib.Omega.{arith}
-use lib.Dec.{ltb, eqb}
+use lib.Dec.{ltb}
 use lib.ListN.{length, take, drop}
 use borrow.Author.Tests.{lt-ltb, le-ltb}
 use Rattle.code.specs.declared.Shape.{Shape}
 use Rattle.code.specs.Lists.{Below}
 use Rattle.code.specs.Cells.{sound}
-use Rattle.code.specs.Shape.{rangesDue, given, orderOf, outside, misfit, granted, countsOf, widthOf}
+use Rattle.code.specs.Shape.{given, orderOf, outside, misfit, granted, countsOf, widthOf}
 use Rattle.code.proofs.LayoutCall.{Bounds}
 use Rattle.code.specs.Calls.{refusal, answer, leaves, layoutRefusal}
 use Rattle.code.specs.Numerals.{numeralsOf}
@@ -60,15 +60,6 @@ pub numbers-below : (s : Shape) → Bounds s → s .count ≤ length (s .v) →
     Below (2 ^ 63) (s .form ∷ s .m ∷ s .t ∷ []) × Below (2 ^ 63) (take (s .count) (s .v))
 numbers-below s b h =
     ((omega (arith, b .form-high), (omega (arith, b .m-high), (omega (arith, b .t-high), tt))), rw (given-taken s h) at (ranges-below s b))
-
--- a shape within its bounds has no more ranges than places for them
-pub count-few : (s : Shape) → Bounds s → s .count ≤ 16
-unfolding rangesDue
-count-few s b = go (eqb (s .form) 2) (b .due)
-  where
-    go : (two : Bool) → s .count ≡ cond two (s .t) 1 → s .count ≤ 16
-    go true e = omega (arith, b .t-high)
-    go false e = omega arith
 
 -- they are three, and its ranges as they stand in its array
 pub numbers-parts : (s : Shape) → s .count ≤ length (s .v) →

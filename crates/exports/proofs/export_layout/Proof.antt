@@ -10,9 +10,9 @@ use Rattle.code.specs.Lists.{Below}
 use Rattle.code.specs.Calls.{filled, layoutFields, layoutReply}
 use Rattle.layout.specs.Plan.{Granted}
 use Rattle.layout.proofs.Planning.{plan-refused, plan-granted}
-use Rattle.exports.proofs.Exports.{listed-refused, listed-crowded, listed-made, numbersOf, numbers-below, numbers-parts, count-few}
+use Rattle.exports.proofs.Exports.{listed-refused, listed-crowded, listed-made, numbersOf, numbers-below, numbers-parts}
 use Rattle.code.specs.Numerals.{numeralsOf}
-use Rattle.code.proofs.LayoutCall.{given-length}
+use Rattle.code.proofs.LayoutCall.{given-length, count-few}
 use Rattle.code.proofs.Records.{numerals-few}
 use Rattle.storing.proofs.Put.{put-then, put-length}
 use Rattle.exports.proofs.export_layout.Statement.{statement}
