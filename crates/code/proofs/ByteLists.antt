@@ -12,6 +12,11 @@ use Rattle.code.proofs.Tests.{le-or-lt}
 use Rattle.code.proofs.Wits.{Bytes}
 use Rattle.code.proofs.Digits.{sevens-last, sevens-split}
 
+-- a bound on every number, by place and by list
+pub below-each : (b : ℕ) (xs : List ℕ) → ((i : ℕ) → i < length xs → getD xs i 0 < b) → Below b xs
+below-each b [] h = tt
+below-each b (x ∷ xs) h = (h 0 (omega arith), below-each b xs (λ i l. h (suc i) (omega arith)))
+
 pub bytes-drop : (bytes : List ℕ) (at : ℕ) → Bytes bytes → Bytes (drop at bytes)
 bytes-drop bytes at b i h = rw (getD-drop at bytes i 0) (b (at + i) (omega (arith, length-drop at bytes)))
 

@@ -1,5 +1,5 @@
 -- What the export calls stored walks back: records one after the other are an old dump, and behind a count and as many layouts a new one.
-use Prim.Native.Nat.{ℕ, suc, _-_, _^_, _≤_, _<_}
+use Prim.Native.Nat.{ℕ, _-_, _^_, _≤_, _<_}
 use mathlib.Core.Path.{_≡_, refl, sym, ap, _∙_}
 use mathlib.Core.Bool.{Bool, true, false, cond}
 use mathlib.Core.List.{List, [], _∷_, _++_, map}
@@ -19,6 +19,7 @@ use Rattle.code.specs.Export.{recordOf, Exporting, oldExport, newExport,
 use Rattle.code.specs.Dump.{Source, ownLayouts, listedLayouts, walk}
 use Rattle.code.specs.NewDump.{Entry, entryHead, recordsOf, layoutExportRefusal, layoutExportReply, layoutExportLeaves}
 use Rattle.code.proofs.Tests.{clash, and-false}
+use Rattle.code.proofs.ByteLists.{below-each}
 use Rattle.code.proofs.LayoutCall.{given-length, given-at, outside-within, passed}
 use Rattle.code.proofs.Stores.{tests-refuse, reply-told, accepted, stored-made}
 use Rattle.code.proofs.Parsed.{Listing, Sound, AllSound}
@@ -70,10 +71,6 @@ module _ (x : Exporting) (cells out : List ℕ) where
       let made = recordOf (x .head) cells in
       stored-made made (exportReply x cells out) (exportLeaves x cells out) out
       (accepted (exportRefusal x cells out) made out (export-none e) (export-told e .fits))
-
-below-each : (b : ℕ) (xs : List ℕ) → ((i : ℕ) → i < length xs → getD xs i 0 < b) → Below b xs
-below-each b [] h = tt
-below-each b (x ∷ xs) h = (h 0 (omega arith), below-each b xs (λ i l. h (suc i) (omega arith)))
 
 -- within the bounds each range can be written
 pub ranges-below : (s : Shape) → Bounds s → Below (2 ^ 63) (given s)

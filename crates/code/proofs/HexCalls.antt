@@ -1,16 +1,18 @@
 -- The calls on Intel HEX, test by test, as a program comes to them, and the round trips of the calls.
 use Prim.Native.Nat.{ℕ, _≤_, _<_}
-use mathlib.Core.Path.{_≡_, sym}
+use mathlib.Core.Path.{_≡_, refl, sym, ap}
+use mathlib.Core.Logic.{inl, inr}
 use mathlib.Core.List.{List, [], _∷_, _++_}
 use native.Mathlib.Omega.{arith}
 use lib.ListN.{length, getD, take, drop, replicate, length-replicate}
 use lib.Seq.{take-append-seam}
 use borrow.Author.Tests.{lt-ltb, le-ltb}
 use Rattle.code.specs.Lists.{Below}
-use Rattle.code.specs.Calls.{refusal, answer, leaves, lengthIn}
+use Rattle.code.specs.Calls.{refusal, answer, leaves, refusalIn, lengthIn}
 use Rattle.code.specs.Hex.{hexText, hexExportRefusal, hexExportReply, hexExportLeaves}
-use Rattle.code.specs.Hex.{faulty, gives, hexImport, bytesOf, importRefusal, hexImportReply, hexImportLeaves}
-use Rattle.code.proofs.HexImport.{export-import, import-held}
+use Rattle.code.specs.Hex.{Import, faulty, gives, hexImport, bytesOf, importRefusal, hexImportReply, hexImportLeaves}
+use Rattle.code.proofs.Tests.{le-or-lt}
+use Rattle.code.proofs.HexImport.{export-import, import-held, import-refusing}
 
 module _ (bytes out : List ℕ) where
   -- the reply, and the output afterwards
@@ -36,6 +38,19 @@ module _ (bytes out : List ℕ) where
         let z : hexExportRefusal bytes out ≡ [] = rw (le-ltb 65536 (length bytes) few, le-ltb (length out) (length (hexText bytes)) h) in
         (rw z, rw z)
 
+  -- an export that is accepted: its bytes are not too many, and there is room for the text
+  pub export-told : refusalIn (hexExportReply bytes out) ≡ 0 → (length bytes ≤ 65536) × (length (hexText bytes) ≤ length out)
+  export-told e = elim (le-or-lt (length bytes) 65536) [
+    | inr h ↦ absurd (omega (arith, ap (λ reply. refusalIn reply) (export-many h .0)))
+    | inl few ↦ (
+      few,
+      elim (le-or-lt (length (hexText bytes)) (length out)) [
+        | inr h ↦ absurd (omega (arith, ap (λ reply. refusalIn reply) (export-short few h .0)))
+        | inl h ↦ h
+      ],
+    )
+  ]
+
 module _ (text out : List ℕ) where
   abbrev pub HexImports : List ℕ → List ℕ → Type 0
   HexImports reply after = (reply ≡ hexImportReply text out) × (after ≡ hexImportLeaves text out)
@@ -56,6 +71,27 @@ module _ (text out : List ℕ) where
     import-stored l =
         let q = le-ltb (length out) (length bytes) l in
         (rw (h, q), rw (h, q))
+
+  -- an import that is accepted: the text gives bytes, and there is room for them
+  pub import-told : refusalIn (hexImportReply text out) ≡ 0 → (bytes : List ℕ) × (hexImport text ≡ gives bytes) × (length bytes ≤ length out)
+  unfolding hexImportReply importRefusal refusal answer
+  import-told e = go (hexImport text) refl e
+    where
+      refused : (k values : List ℕ) → 0 < getD k 0 0 → refusalIn (answer k values) ≡ 0 → ⊥
+      refused [] values p e = omega arith
+      refused (j ∷ carried) values p e = omega arith
+
+      go : (r : Import) → hexImport text ≡ r → refusalIn (answer (importRefusal r out) (length (bytesOf r) ∷ [])) ≡ 0 →
+          (bytes : List ℕ) × (hexImport text ≡ gives bytes) × (length bytes ≤ length out)
+      go (faulty k) q e = absurd (refused k (length (bytesOf (faulty k)) ∷ []) (import-refusing text k q) e)
+      go (gives bytes) q e = (
+        bytes,
+        q,
+        elim (le-or-lt (length bytes) (length out)) [
+          | inr h ↦ absurd (omega (arith, rw (lt-ltb (length out) (length bytes) h) at e))
+          | inl h ↦ h
+        ],
+      )
 
 -- "Export then import gives the same cells", of the calls: the text is what the export stored
 pub calls-round : (bytes out back : List ℕ) → Below 256 bytes → length bytes ≤ 65536 → length (hexText bytes) ≤ length out → length bytes ≤ length back →

@@ -4,7 +4,7 @@ use mathlib.Core.Path.{_≡_, refl, sym, ap, _∙_}
 use mathlib.Core.Bool.{Bool, true, false}
 use mathlib.Core.List.{List, [], _∷_, _++_, append-assoc, append-nil}
 use native.Mathlib.Omega.{arith}
-use lib.ListN.{length, take, drop, length-append, length-take, length-drop, take-append-drop}
+use lib.ListN.{length, getD, take, drop, length-append, length-take, length-drop, take-append-drop}
 use lib.Seq.{take-take, take-length, take-append-seam}
 use lib.Dec.{ltb}
 use borrow.Author.Tests.{ne-eqb, ltb-true}
@@ -16,6 +16,7 @@ use Rattle.code.specs.Hex.{dataCount, dataAddress, lineType, lineData, l
 use Rattle.code.specs.Lists.{same}
 use Rattle.code.specs.Hex.{displaced, lineRefusal, isEnd, Import, faulty, gives, closed, importFrom, hexImport, bytesOf}
 use Rattle.code.proofs.Tests.{both-true, clash}
+use Rattle.code.proofs.LayoutCall.{refusal-some}
 use Rattle.code.proofs.HexLines.{Shaped}
 use Rattle.code.proofs.HexLines.{line-passed, next-length, data-length, passed-few}
 use Rattle.code.proofs.ByteLists.{below-append}
@@ -164,6 +165,39 @@ module _ (P : List ℕ → List ℕ → Type 0) (here : (bytes : List ℕ) → P
       go (k ∷ carried) q b e ih = clash (cc (from-refused fuel done text k carried q))
       go [] q true e ih = rw (closed-gives done (nextLine text) bytes (sym (from-ended fuel done text q e) ∙ h)) (here bytes)
       go [] q false e ih = back done bytes text q (ih (sym (from-taken fuel done text q e) ∙ h))
+
+-- what a faulty text is refused with has a number above 0
+closed-faulty : (done text k : List ℕ) → closed done text ≡ faulty k → 0 < getD k 0 0
+unfolding closed
+closed-faulty done [] k h = clash (cc)
+closed-faulty done (x ∷ text) k h =
+    let h′ = rw (ne-eqb (suc (length text)) 0 (λ z. omega arith)) at h in
+    let z : 24 ∷ [] ≡ k = cc in
+    rw (← z) (omega arith)
+
+line-refused : (n : ℕ) (line : List ℕ) (k : ℕ) (carried : List ℕ) → lineRefusal n line ≡ k ∷ carried → 0 < k
+unfolding lineRefusal
+line-refused n line k carried q =
+    refusal-some _ (omega arith, (omega arith, (omega arith, (omega arith, (omega arith, (omega arith, tt)))))) k carried q
+
+from-faulty : (fuel : ℕ) (done text k : List ℕ) → importFrom fuel done text ≡ faulty k → 0 < getD k 0 0
+unfolding importFrom
+from-faulty zero done text k h = let z : 23 ∷ [] ≡ k = cc in rw (← z) (omega arith)
+from-faulty (suc fuel) done text k h =
+    go (lineRefusal (length done) text) refl (isEnd text) refl (from-faulty fuel (done ++ lineData text) (nextLine text) k)
+  where
+    go : (r : List ℕ) → lineRefusal (length done) text ≡ r → (b : Bool) → isEnd text ≡ b →
+        (importFrom fuel (done ++ lineData text) (nextLine text) ≡ faulty k → 0 < getD k 0 0) → 0 < getD k 0 0
+    go (j ∷ carried) q b e ih =
+        let f = sym (from-refused fuel done text j carried q) ∙ h in
+        let z : j ∷ carried ≡ k = cc in
+        rw (← z) (line-refused (length done) text j carried q)
+    go [] q true e ih = closed-faulty done (nextLine text) k (sym (from-ended fuel done text q e) ∙ h)
+    go [] q false e ih = ih (sym (from-taken fuel done text q e) ∙ h)
+
+pub import-refusing : (text k : List ℕ) → hexImport text ≡ faulty k → 0 < getD k 0 0
+unfolding hexImport
+import-refusing text k = from-faulty (suc (length text)) [] text k
 
 -- what a text gives are bytes, at most 65,536 of them
 pub import-held : (text bytes : List ℕ) → hexImport text ≡ gives bytes → Addressed bytes
