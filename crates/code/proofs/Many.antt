@@ -6,10 +6,10 @@ use mathlib.Core.Bool.{true}
 use mathlib.Core.List.{List, [], _∷_, _++_, map}
 use native.Mathlib.Omega.{arith}
 use native.Mathlib.Nat.{le-refl, zero-mul}
-use lib.Dec.{eqb}
+use lib.Dec.{ltb, eqb}
 use lib.ListN.{length, getD, take, drop, length-append, take-append-drop}
 use lib.Seq.{take-at, drop-at, drop-drop}
-use borrow.Author.Tests.{not-false, ne-eqb}
+use borrow.Author.Tests.{not-false, ltb-false, ne-eqb}
 use Rattle.code.specs.declared.Shape.{Shape}
 use Rattle.code.specs.Shape.{firstOf, rangesOf, orderOf, outside, granted, misfit, countsOf, widthOf, codeOf}
 use Rattle.code.specs.Cells.{wit, sound, ones}
@@ -21,7 +21,7 @@ use Rattle.code.proofs.Tests.{clash}
 use Rattle.code.proofs.Wits.{Bytes, wit-rises}
 use Rattle.code.proofs.Cells.{sound-length, ones-append}
 use Rattle.code.proofs.Bytes.{tried-long, tried-is}
-use Rattle.code.proofs.LayoutCall.{passed, bounded, is-layout}
+use Rattle.code.proofs.LayoutCall.{passed, refusal-some, bounded, is-layout}
 use Rattle.code.proofs.WriteCall.{write-some, leaves-is}
 use Rattle.code.proofs.ByteLists.{bytes-take, bytes-drop, bytes-append}
 use Rattle.code.proofs.Demand.{reads-back, never-falls, turned-are, refused-write-keeps}
@@ -205,8 +205,34 @@ module _ (s : Shape) where
     | inr w ↦ rw (behind-next j bytes) (made-accepted xs (rest bytes) j (omega (arith, ap length (w .made))))
   ]
 
+  -- Its reply is that of the single write.
+  pub made-single : (xs bytes : List ℕ) (j : ℕ) → j < length (madeReplies (manyReplies s xs bytes)) →
+      getD (madeReplies (manyReplies s xs bytes)) j [] ≡ writeReply s (getD xs j 0) (fieldOf s j bytes)
+  unfolding manyReplies madeReplies
+  made-single [] bytes j l = absurd (omega arith)
+  made-single (x ∷ xs) bytes j l = elim (stops-or-goes x xs bytes) [
+    | inl w ↦ absurd (omega (arith, ap length (w .made)))
+    | inr w ↦ go w j l (made-single xs (rest bytes))
+  ]
+    where
+      go : Goes x xs bytes → (j : ℕ) → j < length (madeReplies (manyReplies s (x ∷ xs) bytes)) →
+          ((j : ℕ) → j < length (madeReplies (manyReplies s xs (rest bytes))) →
+          getD (madeReplies (manyReplies s xs (rest bytes))) j [] ≡ writeReply s (getD xs j 0) (fieldOf s j (rest bytes))) →
+          getD (madeReplies (manyReplies s (x ∷ xs) bytes)) j [] ≡ writeReply s (getD (x ∷ xs) j 0) (fieldOf s j bytes)
+      go w zero l ih = rw (w .made, field-first bytes)
+      go w (suc j) l ih = rw (w .made, behind-next j bytes) (ih j (omega (arith, ap length (w .made))))
+
+  -- No more fields are written than there are numbers.
+  pub made-most : (xs bytes : List ℕ) → length (madeReplies (manyReplies s xs bytes)) ≤ length xs
+  unfolding manyReplies madeReplies
+  made-most [] bytes = omega arith
+  made-most (x ∷ xs) bytes = elim (stops-or-goes x xs bytes) [
+    | inl w ↦ omega (arith, ap length (w .made))
+    | inr w ↦ omega (arith, ap length (w .made), made-most xs (rest bytes))
+  ]
+
   -- what is written has been tried
-  made-tried : (xs bytes : List ℕ) → length (madeReplies (manyReplies s xs bytes)) ≤ length (manyReplies s xs bytes)
+  pub made-tried : (xs bytes : List ℕ) → length (madeReplies (manyReplies s xs bytes)) ≤ length (manyReplies s xs bytes)
   unfolding manyReplies madeReplies
   made-tried [] bytes = omega arith
   made-tried (x ∷ xs) bytes = elim (stops-or-goes x xs bytes) [
@@ -247,6 +273,16 @@ module _ (s : Shape) where
       go : (r : List ℕ) → leaves r bytes bytes ≡ bytes
       go [] = refl
       go (k ∷ carried) = refl
+
+  -- Where it is not refused before any write, there are at most 64 numbers.
+  pub unbarred-few : (xs bytes : List ℕ) → manyRefusal s xs bytes ≡ [] → length xs ≤ 64
+  unfolding manyRefusal
+  unbarred-few xs bytes q = ltb-false 64 (length xs) (passed 14 [] (ltb 64 (length xs)) _ q .0)
+
+  -- A refusal before any write has a number above 0.
+  pub barred-some : (xs bytes : List ℕ) (k : ℕ) (carried : List ℕ) → manyRefusal s xs bytes ≡ k ∷ carried → 0 < k
+  unfolding manyRefusal
+  barred-some xs bytes k carried q = refusal-some _ (omega arith, (omega arith, (omega arith, (omega arith, tt)))) k carried q
 
   -- Refused before any write, the call leaves the cells as they were.
   pub barred-keeps : (xs bytes : List ℕ) (k : ℕ) (carried : List ℕ) → manyRefusal s xs bytes ≡ k ∷ carried → manyLeaves s xs bytes ≡ bytes
