@@ -25,6 +25,14 @@ use Rattle.code.proofs.SameCode.{SameCode}
 use Rattle.code.proofs.LayoutCall.{given-length, given-at, range-single, bounded}
 use Rattle.code.proofs.WriteCall.{write-barred, none-refused, first-write, next-write, write-made, write-unsound, write-large, write-miscounted, write-beyond, write-spent, write-late, read-most, refused-not}
 
+-- the refusals that a write of form 2 tests before 6
+abbrev pub Later : ℕ → Type 0
+Later k = (k ≡ 15) ⊎ ((k ≡ 16) ⊎ (k ≡ 5))
+
+-- a reply of form 2 and one of form 1: they are the same, or form 1 answers 6 where form 2 has looked at the cells and answers one of these
+abbrev pub SameOrLater : List ℕ → List ℕ → Type 0
+SameOrLater reply other = (reply ≡ other) ⊎ ((other ≡ 6 ∷ []) × Later (refusalIn reply))
+
 -- a shape of form 2 whose t ranges are all v, and the one of form 1 with that range
 module _ (s : Shape) (v : ℕ) (two : s .form ≡ 2) (many : s .count ≡ s .t) (all : (i : ℕ) → i < s .t → getD (s .v) i 0 ≡ v) where
   abbrev pub one : Shape
@@ -68,7 +76,7 @@ module _ (s : Shape) (v : ℕ) (two : s .form ≡ 2) (many : s .count ≡ s .t) 
   ]
 
   -- so both have one code
-  one-code : SameCode s one
+  pub one-code : SameCode s one
   one-code = record {
     m-same = refl;
     t-same = refl;
@@ -98,7 +106,7 @@ module _ (s : Shape) (v : ℕ) (two : s .form ≡ 2) (many : s .count ≡ s .t) 
   write-same = Code.write-same s one one-code
 
   -- A write is accepted by both or by neither.
-  passes-same : (x : ℕ) (bs : List ℕ) → passes (writeRefusal s x bs) ≡ passes (writeRefusal one x bs)
+  pub passes-same : (x : ℕ) (bs : List ℕ) → passes (writeRefusal s x bs) ≡ passes (writeRefusal one x bs)
   passes-same x bs = go (layoutRefusal one 256) refl
     where
       go : (r : List ℕ) → layoutRefusal one 256 ≡ r → passes (writeRefusal s x bs) ≡ passes (writeRefusal one x bs)
@@ -117,11 +125,8 @@ module _ (s : Shape) (v : ℕ) (two : s .form ≡ 2) (many : s .count ≡ s .t) 
       go (k ∷ carried) (j ∷ more) e = refl
 
   -- The replies: they are the same, the turned counts among them, but where form 1 answers 6 before it looks at the cells.
-  abbrev pub Later : ℕ → Type 0
-  Later k = (k ≡ 15) ⊎ ((k ≡ 16) ⊎ (k ≡ 5))
-
   abbrev pub Alike : ℕ → List ℕ → Type 0
-  Alike x bs = (writeReply s x bs ≡ writeReply one x bs) ⊎ ((writeReply one x bs ≡ 6 ∷ []) × Later (refusalIn (writeReply s x bs)))
+  Alike x bs = SameOrLater (writeReply s x bs) (writeReply one x bs)
 
   accepted-alike : (x : ℕ) (bs : List ℕ) → writeRefusal one x bs ≡ [] → writeReply s x bs ≡ writeReply one x bs
   unfolding writeReply orderOf passes
@@ -156,29 +161,29 @@ module _ (s : Shape) (v : ℕ) (two : s .form ≡ 2) (many : s .count ≡ s .t) 
     some = omega (arith, bounded one ok .t-low)
 
     -- a number that is in range, by what the cells read as
-    small : x < v → (r : Reading) → fieldRead one bs ≡ r → Alike x bs
+    small : x < v → (r : Reading) → fieldRead one bs ≡ r → writeReply s x bs ≡ writeReply one x bs
     unfolding fieldRead readCells taker miscounts exceeds spent widthOf orderOf
     small h blank q =
         let l = over-one x false (lt-leb v x h) in
         let in-range : x < getD (rangesOf one) 0 0 = omega (arith, range-here 0 some .1) in
         let w = first-write one ok x (opened (orderOf one) (s .m) (widthOf one) bs) q in-range in
         let made = write-made one x bs ok f l blank q refl refl refl _ _ in-range (w .0) in
-        inl (accepted-alike x bs (none-refused one x bs _ (made .0)))
+        accepted-alike x bs (none-refused one x bs _ (made .0))
     small h (reads i y) q = elim (ℕ-discrete i (s .t)) [
       | yes e ↦
-          inl (write-spent s x bs oks whole (over-none x) i y (field-same bs ∙ q) e .0 ∙ sym (write-spent one x bs ok f (over-one x false (lt-leb v x h)) i y q e .0))
+          write-spent s x bs oks whole (over-none x) i y (field-same bs ∙ q) e .0 ∙ sym (write-spent one x bs ok f (over-one x false (lt-leb v x h)) i y q e .0)
       | no d ↦
           let groups = opened (orderOf one) (s .m) (widthOf one) bs in
           let below : i < s .t = lt-of-le-ne (read-most one ok groups i y q) d in
           let in-range : x < getD (rangesOf one) i 0 = omega (arith, range-here i below .1) in
           let w = next-write one ok x i y groups in-range q below in
           let made = write-made one x bs ok f (over-one x false (lt-leb v x h)) (reads i y) q refl refl (ne-eqb i (s .t) d) _ _ in-range (w .0) in
-          inl (accepted-alike x bs (none-refused one x bs _ (made .0)))
+          accepted-alike x bs (none-refused one x bs _ (made .0))
     ]
     small h (miscounted i u) q =
-        inl (write-miscounted s x bs oks whole (over-none x) i u (field-same bs ∙ q) .0 ∙ sym (write-miscounted one x bs ok f (over-one x false (lt-leb v x h)) i u q .0))
+        write-miscounted s x bs oks whole (over-none x) i u (field-same bs ∙ q) .0 ∙ sym (write-miscounted one x bs ok f (over-one x false (lt-leb v x h)) i u q .0)
     small h (beyond i) q =
-        inl (write-beyond s x bs oks whole (over-none x) i (field-same bs ∙ q) .0 ∙ sym (write-beyond one x bs ok f (over-one x false (lt-leb v x h)) i q .0))
+        write-beyond s x bs oks whole (over-none x) i (field-same bs ∙ q) .0 ∙ sym (write-beyond one x bs ok f (over-one x false (lt-leb v x h)) i q .0)
 
     -- one that is not: form 1 answers 6 at once
     module _ (h : v ≤ x) where
@@ -203,18 +208,27 @@ module _ (s : Shape) (v : ℕ) (two : s .form ≡ 2) (many : s .count ≡ s .t) 
       large (miscounted i u) q = inr (six, inl (ap (λ l. getD l 0 0) (write-miscounted s x bs oks whole (over-none x) i u (field-same bs ∙ q) .0)))
       large (beyond i) q = inr (six, inr (inl (ap (λ l. getD l 0 0) (write-beyond s x bs oks whole (over-none x) i (field-same bs ∙ q) .0))))
 
-  -- a write's reply is that of form 1, or form 1 answers 6 where form 2 has looked at the cells and answers 15, 16 or 5
-  pub replies-alike : (x : ℕ) (bs : List ℕ) → Alike x bs
+  -- without a layout or with unsound cells the replies are the same
+  looked-at : (x : ℕ) (bs : List ℕ) (P : Type 0) → (writeReply s x bs ≡ writeReply one x bs → P) →
+      (layoutRefusal one 256 ≡ [] → sound (orderOf s) (s .m) (widthOf one) bs ≡ true → P) → P
   unfolding writeReply answer orderOf
-  replies-alike x bs = go (layoutRefusal one 256) refl
+  looked-at x bs P same then = go (layoutRefusal one 256) refl
     where
-      passed : (ok : layoutRefusal one 256 ≡ []) (b : Bool) → sound (orderOf s) (s .m) (widthOf one) bs ≡ b → Alike x bs
-      passed ok true f = elim (le-or-lt v x) [
-        | inl h ↦ large ok x bs f h (fieldRead one bs) refl
-        | inr h ↦ small ok x bs f h (fieldRead one bs) refl
-      ]
-      passed ok false f = inl (write-unsound s x bs (refusal-same ∙ ok) (rw width-same f) .0 ∙ sym (write-unsound one x bs ok f .0))
+      passed : layoutRefusal one 256 ≡ [] → (b : Bool) → sound (orderOf s) (s .m) (widthOf one) bs ≡ b → P
+      passed ok true f = then ok f
+      passed ok false f = same (write-unsound s x bs (refusal-same ∙ ok) (rw width-same f) .0 ∙ sym (write-unsound one x bs ok f .0))
 
-      go : (r : List ℕ) → layoutRefusal one 256 ≡ r → Alike x bs
+      go : (r : List ℕ) → layoutRefusal one 256 ≡ r → P
       go [] ok = passed ok (sound (orderOf s) (s .m) (widthOf one) bs) refl
-      go (k ∷ carried) q = inl (rw (write-barred s x bs k carried (refusal-same ∙ q), write-barred one x bs k carried q))
+      go (k ∷ carried) q = same (rw (write-barred s x bs k carried (refusal-same ∙ q), write-barred one x bs k carried q))
+
+  -- a write's reply is that of form 1 where the number is below the range
+  pub reply-same : (x : ℕ) (bs : List ℕ) → x < v → writeReply s x bs ≡ writeReply one x bs
+  reply-same x bs h = looked-at x bs (writeReply s x bs ≡ writeReply one x bs) (λ e. e) (λ ok f. small ok x bs f h (fieldRead one bs) refl)
+
+  -- of any number it is, or form 1 answers 6 where form 2 has looked at the cells and answers 15, 16 or 5
+  pub replies-alike : (x : ℕ) (bs : List ℕ) → Alike x bs
+  replies-alike x bs = elim (le-or-lt v x) [
+    | inl h ↦ looked-at x bs (Alike x bs) inl (λ ok f. large ok x bs f h (fieldRead one bs) refl)
+    | inr h ↦ inl (reply-same x bs h)
+  ]

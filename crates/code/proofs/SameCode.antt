@@ -1,4 +1,4 @@
--- Shapes that have one code and one set of bounds are laid out, read and written alike, whatever else is in them.
+-- Shapes that have one code and one set of bounds are laid out, read, written and exported alike, whatever else is in them.
 use Prim.Native.Nat.{ℕ}
 use mathlib.Core.Path.{_≡_, refl}
 use mathlib.Core.List.{List}
@@ -6,6 +6,8 @@ use lib.Dec.{eqb}
 use Rattle.code.specs.declared.Shape.{Shape}
 use Rattle.code.specs.Shape.{firstOf, rangesOf, orderOf, outside, granted, countsOf, widthOf, codeOf}
 use Rattle.code.specs.Field.{Reading, blank, reads, miscounted, beyond}
+use Rattle.code.specs.Many.{fieldBytes}
+use Rattle.code.specs.Export.{newExport, exportRefusal, exportReply, exportLeaves}
 use Rattle.code.specs.Calls.{layoutRefusal, layoutReply, fieldRead, fieldWrite, unsound, numberless, readRefusal, readReply}
 
 -- what the calls go by: m, t, whether blank cells have a number, the bounds and the ranges of the generations
@@ -70,3 +72,22 @@ module _ (s r : Shape) (same : SameCode s r) where
   unfolding readReply readRefusal
   read-same bs =
       rw (same .outside-same 256, counts-same, unsound-same bs, field-same bs, numberless-same (fieldRead r bs), same .t-same)
+
+  -- the bytes of a field
+  pub bytes-same : fieldBytes s ≡ fieldBytes r
+  unfolding fieldBytes
+  bytes-same = rw (width-same, same .m-same)
+
+  -- the export of a new record, which has the number of its layout and not the shape
+  module _ (serial layout : ℕ) (cells out : List ℕ) where
+    export-refusal : exportRefusal (newExport serial layout s) cells out ≡ exportRefusal (newExport serial layout r) cells out
+    unfolding exportRefusal
+    export-refusal = rw (same .outside-same 256, counts-same, unsound-same cells)
+
+    pub export-same : exportReply (newExport serial layout s) cells out ≡ exportReply (newExport serial layout r) cells out
+    unfolding exportReply
+    export-same = rw export-refusal
+
+    pub export-leaves-same : exportLeaves (newExport serial layout s) cells out ≡ exportLeaves (newExport serial layout r) cells out
+    unfolding exportLeaves
+    export-leaves-same = rw export-refusal
