@@ -50,4 +50,4 @@ pub mod HexImport
 pub mod HexCalls
 pub mod Many
 pub mod ManyExamples
-pub mod EqualCalls
+pub mod RangesAlike

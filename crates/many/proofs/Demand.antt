@@ -6,8 +6,10 @@ use mathlib.Core.Bool.{false, cond}
 use mathlib.Core.List.{List, [], _∷_, map}
 use native.Mathlib.Omega.{arith}
 use native.Mathlib.Nat.{le-refl}
+use lib.Dec.{ltb}
 use lib.ListN.{length, getD, take, drop, replicate, length-map, List·getD-map, List·getD-eq-default}
 use lib.Seq.{getD-take, getD-drop}
+use borrow.Author.Tests.{ltb-false}
 use Rattle.code.specs.declared.Shape.{Shape}
 use Rattle.code.specs.Shape.{orderOf}
 use Rattle.code.specs.Cells.{wit, ones}
@@ -15,12 +17,12 @@ use Rattle.code.specs.Lists.{listSum}
 use Rattle.code.specs.Calls.{answer, passes, filled, fieldRead, left, readReply, refusalIn, generationIn, turnedIn, unerasedIn, writeRefusal, writeReply, writeLeaves}
 use Rattle.code.specs.Many.{fieldBytes, manyReplies, manyCells, manyRefusal, madeReplies, stopReply, manyNumbers, manyTold, manyReply, manyLeaves}
 use Rattle.code.proofs.Wits.{Bytes}
-use Rattle.code.proofs.LayoutCall.{padded, filled-at}
+use Rattle.code.proofs.LayoutCall.{passed, refusal-some, padded, filled-at}
 use Rattle.code.proofs.HexText.{sum-append}
 use Rattle.code.proofs.WriteCall.{write-some}
 use Rattle.code.proofs.Many as Code
 use Rattle.code.proofs.Many.{fieldOf, reply-single, cells-single, stopped-keeps, stopped-at, made-accepted, made-single, made-most, made-tried}
-use Rattle.code.proofs.Many.{unbarred-few, barred-some, barred-keeps, unbarred-leaves, turned-sum, many-never-falls, many-reads-back}
+use Rattle.code.proofs.Many.{barred-keeps, unbarred-leaves, turned-sum, many-never-falls, many-reads-back}
 use Rattle.reading.specs.declared.Reading.{Reading}
 use Rattle.reading.specs.declared.Reading.the-variants.{Read}
 use Rattle.reading.specs.declared.Refusal.{Refusal}
@@ -56,6 +58,15 @@ accepted-parts : (s : Shape) (x : ℕ) (bs : List ℕ) → writeRefusal s x bs �
     writeReply s x bs ≡ 0 ∷ generationIn (writeReply s x bs) ∷ turnedIn (writeReply s x bs) ∷ []
 unfolding writeReply answer
 accepted-parts s x bs z = rw z
+
+-- what a call that is not refused before any write, and one that is, tell of the first tests
+unbarred-few : (s : Shape) (xs bytes : List ℕ) → manyRefusal s xs bytes ≡ [] → length xs ≤ 64
+unfolding manyRefusal
+unbarred-few s xs bytes q = ltb-false 64 (length xs) (passed 14 [] (ltb 64 (length xs)) _ q .0)
+
+barred-some : (s : Shape) (xs bytes : List ℕ) (k : ℕ) (carried : List ℕ) → manyRefusal s xs bytes ≡ k ∷ carried → 0 < k
+unfolding manyRefusal
+barred-some s xs bytes k carried q = refusal-some _ (omega arith, (omega arith, (omega arith, (omega arith, tt)))) k carried q
 
 module _ (s : Shape) (numbers cells after : List ℕ) (a : Many) (p : manyOf a ≡ manyReply s numbers cells) (l : after ≡ manyLeaves s numbers cells) where
   -- the single write of a field: its number into its bytes as they were
