@@ -127,8 +127,8 @@ unfolding entryHead
 export-head ownLayouts e = refl
 export-head (listedLayouts ls) e = refl
 
--- What an export says of its layout, which is what a dump can tell: m, t and v in an old record, so that the form is 0 and one range is given; in a new one the number of
--- a listed layout with the same form, m, t and ranges given. What stands behind these ranges in the shape is not looked at.
+-- What an export says of its layout, which is what a dump can tell: m, t and v in an old record, so that the form is 0 and one range is given; in a new one
+-- the number of a listed layout with the same form, m, t and ranges given. What stands behind these ranges in the shape is not looked at.
 abbrev pub Said : Source → Entry → Type 0
 Said ownLayouts e = (e .layout ≡ 0) × (e .shape .form ≡ 0) × (e .shape .count ≡ 1)
 Said (listedLayouts ls) e = (e .layout < length ls) × (listedOf (e .shape) ≡ getD ls (e .layout) unlisted)
@@ -281,7 +281,8 @@ layout-at : (shapes : List Shape) (i : ℕ) → getD (map listedOf shapes) i unl
 unfolding listedOf given listed
 layout-at shapes i = List·getD-map listedOf shapes i (shaped 0 0 0)
 
--- A new dump of exports: a count byte, so many exported layouts, and behind them records that were exported with the number of a layout and its form, m, t and ranges.
+-- A new dump of exports: a count byte, so many exported layouts, and behind them records that were exported with the number of a layout and with its form, m, t
+-- and ranges.
 module _ (layoutCalls : LayoutCalls) where
   abbrev pub exportedList : List Listed
   exportedList = map listedOf (shapesOf layoutCalls)

@@ -1,5 +1,5 @@
--- Document 02, §7: "Equal ranges must equal form 1 but for the order of refusals", of the other calls: the write of many numbers, the export of a new record, and the
--- walk of a new dump.
+-- Document 02, §7: "Equal ranges must equal form 1 but for the order of refusals", of the other calls: the write of many numbers, the export of a new record,
+-- and the walk of a new dump.
 use Prim.Native.Nat.{ℕ, zero, suc, _+_, _<_}
 use mathlib.Core.Path.{_≡_, refl, sym, ap, subst, _∙_}
 use mathlib.Core.Logic.{_⊎_, inl, inr}
@@ -98,7 +98,8 @@ module _ (s : Shape) (v : ℕ) (two : s .form ≡ 2) (many : s .count ≡ s .t) 
   cells-same [] bytes = refl
   cells-same (x ∷ xs) bytes =
       let n = fieldBytes alone in
-      rw (Code.bytes-same s alone code, leaves-same s v two many all x (take n bytes), passes-same s v two many all x (take n bytes), cells-same xs (drop n bytes))
+      let left = leaves-same s v two many all x (take n bytes) in
+      rw (Code.bytes-same s alone code, left, passes-same s v two many all x (take n bytes), cells-same xs (drop n bytes))
 
   pub many-leaves-same : (xs bytes : List ℕ) → manyLeaves s xs bytes ≡ manyLeaves alone xs bytes
   unfolding manyLeaves
@@ -110,7 +111,8 @@ module _ (s : Shape) (v : ℕ) (two : s .form ≡ 2) (many : s .count ≡ s .t) 
   replies-same [] bytes b = refl
   replies-same (x ∷ xs) bytes b =
       let n = fieldBytes alone in
-      rw (Code.bytes-same s alone code, reply-same s v two many all x (take n bytes) (b .0), passes-same s v two many all x (take n bytes), replies-same xs (drop n bytes) (b .1))
+      let reply = reply-same s v two many all x (take n bytes) (b .0) in
+      rw (Code.bytes-same s alone code, reply, passes-same s v two many all x (take n bytes), replies-same xs (drop n bytes) (b .1))
 
   pub many-same : (xs bytes : List ℕ) → Below v xs → manyReply s xs bytes ≡ manyReply alone xs bytes
   unfolding manyReply
@@ -191,7 +193,8 @@ unfolding walkFrom
 walked-step kind bytes zero at r m = absurd (List·Memᴰ·not-nil m)
 walked-step kind bytes (suc fuel) at r m = go (step kind bytes at) refl (λ next. walked-step kind bytes fuel next r)
   where
-    go : (x : Step) → step kind bytes at ≡ x → ((next : ℕ) → List·Memᴰ (taken r) (walkFrom fuel kind bytes next) → (place : ℕ) × (step kind bytes place ≡ taken r)) →
+    go : (x : Step) → step kind bytes at ≡ x →
+        ((next : ℕ) → List·Memᴰ (taken r) (walkFrom fuel kind bytes next) → (place : ℕ) × (step kind bytes place ≡ taken r)) →
         (place : ℕ) × (step kind bytes place ≡ taken r)
     go (taken r′) q ih = elim (List·Memᴰ·cases-cons (rw (walk-taken kind bytes fuel at r′ q) at m)) [
       | inl e ↦ (at, q ∙ sym e)

@@ -1,5 +1,5 @@
--- What stands behind the ranges of a shape is not looked at: shapes of the same form, m and t with the same ranges given are read alike, among them a shape and what
--- a dump gives back of it.
+-- What stands behind the ranges of a shape is not looked at: shapes of the same form, m and t with the same ranges given are read alike, among them a shape and
+-- what a dump gives back of it.
 use Prim.Native.Nat.{ℕ, _<_}
 use mathlib.Core.Path.{_≡_, sym, ap, _∙_}
 use mathlib.Core.List.{List}

@@ -1,5 +1,5 @@
--- Document 02, §6: 15 and 16 come exactly where document 01 has no reading, and what they carry is fixed by the cells. Its sentences are said here on the groups of
--- the cells, and the replies are compared with them.
+-- Document 02, §6: 15 and 16 come exactly where document 01 has no reading, and what they carry is fixed by the cells. Its sentences are said here on the
+-- groups of the cells, and the replies are compared with them.
 use Prim.Native.Nat.{ℕ, zero, suc, _-_, _^_, _≤_, _<_}
 use mathlib.Core.Path.{_≡_, refl, sym, _∙_}
 use mathlib.Core.Logic.{_⊎_, inl, inr, _↔_}

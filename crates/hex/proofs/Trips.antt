@@ -1,5 +1,5 @@
--- The HEX calls made one after the other, by any answers and outputs that their promises allow: 02, §1, "Export then import gives the same cells; import then export
--- gives one standard file".
+-- The HEX calls made one after the other, by any answers and outputs that their promises allow: 02, §1, "Export then import gives the same cells; import then
+-- export gives one standard file".
 use Prim.Native.Nat.{ℕ, _+_, _*_, _≤_, _<_}
 use mathlib.Core.Path.{_≡_, sym, ap, _∙_}
 use mathlib.Core.List.{List, _++_}

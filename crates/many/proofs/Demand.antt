@@ -1,4 +1,5 @@
--- The demands on a write of many numbers, of the call: over any answer and cells at exit that its promise allows, and beside any single writes and reads of its fields.
+-- The demands on a write of many numbers, of the call: over any answer and cells at exit that its promise allows, beside any single writes and reads of its
+-- fields.
 use Prim.Native.Nat.{ℕ, zero, suc, _+_, _*_, _-_, _≤_, _<_}
 use mathlib.Core.Path.{_≡_, refl, sym, ap, _∙_}
 use mathlib.Core.Logic.{_⊎_, inl, inr}
@@ -14,7 +15,8 @@ use Rattle.code.specs.declared.Shape.{Shape}
 use Rattle.code.specs.Shape.{orderOf}
 use Rattle.code.specs.Cells.{wit, ones}
 use Rattle.code.specs.Lists.{listSum}
-use Rattle.code.specs.Calls.{answer, passes, filled, fieldRead, left, readReply, refusalIn, generationIn, turnedIn, unerasedIn, writeRefusal, writeReply, writeLeaves}
+use Rattle.code.specs.Calls.{answer, passes, filled, refusalIn, generationIn, turnedIn, unerasedIn}
+use Rattle.code.specs.Calls.{fieldRead, left, readReply, writeRefusal, writeReply, writeLeaves}
 use Rattle.code.specs.Many.{fieldBytes, manyReplies, manyCells, manyRefusal, madeReplies, stopReply, manyNumbers, manyTold, manyReply, manyLeaves}
 use Rattle.code.proofs.Wits.{Bytes}
 use Rattle.code.proofs.LayoutCall.{passed, refusal-some, padded, filled-at}
@@ -231,7 +233,8 @@ module _ (s : Shape) (numbers cells after : List ℕ) (a : Many) (p : manyOf a �
         let refused : passes (stopReply tried) ≡ false = rw e in
         let o = rw refused at (answer-open q) in
         let z : a .field ≡ 1 * length (madeReplies tried) = cc in
-        let three : a .refusal ∷ a .reached ∷ a .unerased ∷ [] ≡ refusalIn (stopReply tried) ∷ generationIn (stopReply tried) ∷ unerasedIn (stopReply tried) ∷ [] = cc in
+        let stop = stopReply tried in
+        let three : a .refusal ∷ a .reached ∷ a .unerased ∷ [] ≡ refusalIn stop ∷ generationIn stop ∷ unerasedIn stop ∷ [] = cc in
         (cc, omega arith, cc, three ∙ three-filled (stopReply tried))
 
   -- stopped is 0 or 1
