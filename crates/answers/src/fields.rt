@@ -8,6 +8,7 @@ use many::Many;
 use protocol::calls::Call;
 use protocol::calls::OnField;
 ghost use Prim.Native.Nat.{_≤_};
+ghost use lib.ListN.{length};
 ghost use Rattle.lines.specs.Bounds.{textMost, replyMost, outcomesMost};
 
 pub fn put_on_field(
@@ -18,7 +19,7 @@ pub fn put_on_field(
     cells: &mut [u8],
     numbers: &[u64],
 ) -> usize
-    requires { ⌜ at ≤ textMost ⌝ }
+    requires { ⌜ (at ≤ textMost) × (call .first ≤ call .second) × (call .second ≤ length (now cells)) ⌝ }
     ensures { λ r. ⌜ r ≤ textMost ⌝ }
 {
     let s = call.shape;
@@ -27,6 +28,11 @@ pub fn put_on_field(
         OnField::Read => put_read(out, at, s, cells),
         OnField::Write => put_write(out, at, s, call.behind, cells),
         OnField::WriteMany => put_many(out, at, s, cells, numbers),
+        OnField::Judge => {
+            let first = call.first;
+            let second = call.second;
+            put_judge(out, at, s, &cells[0..first], &cells[second..])
+        }
     }
 }
 
@@ -43,6 +49,14 @@ fn put_read(out: &mut Text, at: usize, s: Shape, cells: &[u8]) -> usize
 {
     let reply = replies::of_reading(gorvlime::read(s, cells));
     lines::put_reply_line(out, at, *b"read  ", reply)
+}
+
+fn put_judge(out: &mut Text, at: usize, s: Shape, before: &[u8], after: &[u8]) -> usize
+    requires { ⌜ at ≤ textMost ⌝ }
+    ensures { λ r. ⌜ r ≤ textMost ⌝ }
+{
+    let reply = replies::of_judged(gorvlime::judge(s, before, after));
+    lines::put_reply_line(out, at, *b"judge ", reply)
 }
 
 fn put_write(out: &mut Text, at: usize, s: Shape, number: u64, cells: &mut [u8]) -> usize

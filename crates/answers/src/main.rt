@@ -96,7 +96,7 @@ fn answer_next(buffer: &mut [u8], s: State, out: &mut Text) -> State
 }
 
 fn answer(call: Call, bytes: &mut [u8], numbers: &[u64], out: &mut Text, at: usize) -> usize
-    requires { ⌜ (call .room ≤ outputMost) × (at ≤ textMost) ⌝ }
+    requires { ⌜ (call .room ≤ outputMost) × (at ≤ textMost) × (call .first ≤ call .second) × (call .second ≤ length (now bytes)) ⌝ }
     ensures { λ r. ⌜ r ≤ textMost ⌝ }
 {
     let operation = call.operation;

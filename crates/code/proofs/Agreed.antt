@@ -7,7 +7,8 @@ use Rattle.code.specs.Layout.{counts, grant}
 use Rattle.code.specs.Deal.{written, rank, digits, number, laid, places, deal, plain, plainly}
 use Rattle.code.specs.Cells.{bitPlace, wit, value, listed, sum, group, groups, sound, witOf, byteOf, stored, ones, turned}
 use Rattle.code.specs.Code.{dealt, told, pattern, room, deals}
-use Rattle.code.specs.Field.{zeros, unerased, past, carriers, judged, read, erase, cleared, lay, after, writeAt, writeOn, write}
+use Rattle.code.specs.Field.{zeros, unerased, past, carriers, readAt, read, eraseBy, leftmost, clearedBy, afterBy, lay, after, writeAt, writeOn, write}
+use Rattle.code.proofs.Groups.{erase}
 use Rattle.code.specs.Run.{kept}
 use Rattle.code.specs.declared.Shape.{Shape}
 use Rattle.code.specs.Shape.{single, shaped, firstOf, rangesDue, given, rangesOf, allRanges, orderOf, outside, granted, misfit, countsOf, widthOf}
@@ -32,5 +33,5 @@ pub worked :
     × Written (shaped 2 2 20) 16 (0x00 ∷ 0x00 ∷ []) (0 ∷ 1 ∷ 2 ∷ []) (0x01 ∷ 0x40 ∷ [])
     × Written (shaped 2 2 20) 0 (0x00 ∷ 0x40 ∷ []) (0 ∷ 2 ∷ 4 ∷ []) (0xC1 ∷ 0xC0 ∷ [])
     × (rank (0 ∷ 1 ∷ 0 ∷ 1 ∷ 1 ∷ 0 ∷ 0 ∷ []) ≡ 15)
-unfolding choose fewer least room deals counts grant written rank digits number laid places deal plain plainly bitPlace wit value listed sum group groups sound witOf byteOf stored ones turned zeros unerased past dealt carriers told pattern judged read erase cleared lay after writeAt writeOn write kept readCells storing writeCells refusal answer leaves firstOf rangesDue given rangesOf allRanges orderOf outside granted misfit countsOf widthOf layoutRefusal layoutReply fieldRead fieldWrite unsound numberless miscounts exceeds countTold spent taker overRange overTaker generation holds left readRefusal readReply writeRefusal madeAt writeReply writeLeaves
+unfolding choose fewer least room deals counts grant written rank digits number laid places deal plain plainly bitPlace wit value listed sum group groups sound witOf byteOf stored ones turned zeros unerased past dealt carriers told pattern readAt read erase eraseBy leftmost clearedBy afterBy lay after writeAt writeOn write kept readCells storing writeCells refusal answer leaves firstOf rangesDue given rangesOf allRanges orderOf outside granted misfit countsOf widthOf layoutRefusal layoutReply fieldRead fieldWrite unsound numberless miscounts exceeds countTold spent taker overRange overTaker generation holds left readRefusal readReply writeRefusal madeAt writeReply writeLeaves
 worked = (refl, refl, refl, refl, (refl, refl), (refl, refl), (refl, refl), (refl, refl), refl, refl, refl, (refl, refl), (refl, refl), refl)

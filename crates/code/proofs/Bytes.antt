@@ -40,7 +40,7 @@ unfolding storing kept
 storing-kept o m gs refused = refl
 storing-kept o m gs (wrote i gs′) = refl
 
-storing-wrote : (o m : ℕ) (a : Bool) (w : Writing) (i : ℕ) (bs : List ℕ) → cond a (storing o m w) refused ≡ wrote i bs →
+pub storing-wrote : (o m : ℕ) (a : Bool) (w : Writing) (i : ℕ) (bs : List ℕ) → cond a (storing o m w) refused ≡ wrote i bs →
     (a ≡ true) × (gs : List ℕ) × (w ≡ wrote i gs) × (bs ≡ stored o m gs)
 unfolding storing
 storing-wrote o m true (wrote j gs) i bs q = (refl, gs, cc, cc)
@@ -73,7 +73,7 @@ module _ (c : Code) where
       pub back : groupsIn c bs ≡ gs
       pub bytes : Bytes bs
 
-    buffer : (gs : List ℕ) → length gs ≡ width c → Upto (erased c) gs → Buffer gs (stored (c .order) (c .m) gs)
+    pub buffer : (gs : List ℕ) → length gs ≡ width c → Upto (erased c) gs → Buffer gs (stored (c .order) (c .m) gs)
     buffer gs l u = record { right = rw l at (stored-sound (c .order) (c .m) gs pos); back = rw l at (stored-opened (c .order) (c .m) gs pos u); bytes = stored-bytes (c .order) (c .m) gs pos }
 
     stored-write : (x : ℕ) (gs : List ℕ) → length gs ≡ width c → Upto (erased c) gs →

@@ -10,14 +10,16 @@ use lib.Dec.{ltb, eqb}
 use borrow.Author.Tests.{le-leb, lt-leb, lt-ltb, le-ltb, ltb-true, eq-eqb, ne-eqb}
 use Rattle.code.specs.Deal.{written, number, deal, plainly}
 use Rattle.code.specs.declared.Dealing.{Dealing}
+use Rattle.code.specs.declared.Dealing.the-variants.{Patterns}
 use Rattle.code.specs.Code.{Code, erased, width, deals, dealt, generationAt, told, pattern, room}
-use Rattle.code.specs.Field.{zeros, past, carriers, Reading, blank, reads, miscounted, beyond, judged, read, erase, cleared, lay, after, refused, wrote, writeAt, writeOn, write}
+use Rattle.code.specs.Field.{zeros, past, carriers, Reading, blank, reads, miscounted, beyond, readAt, read, leftmost, eraseBy, clearedBy, lay, afterBy, after, refused, wrote, writeAt, writeOn, write}
+use Rattle.code.proofs.Groups.{erase}
 use Rattle.code.specs.Lists.{Upto}
 use Rattle.code.proofs.Tests.{le-or-lt, clash}
 use Rattle.code.proofs.Deal.{deal-is, plainly-is, plain-written, blank-number}
 use Rattle.code.proofs.Places.{deals-before}
 use Rattle.code.proofs.Conditions.{Holds, Layout, head-most, falls, fits}
-use Rattle.code.proofs.Groups.{Grows, zeros-written, upto-grows, erase-wiped, erase-zeros, erase-length, lay-is, lay-blank, lay-grows, erase-lay-grows}
+use Rattle.code.proofs.Groups.{Grows, zeros-written, zeros-blank, blank-zeros, upto-grows, by-wiped, by-length, by-grows, erase-zeros, lay-is, lay-blank, lay-grows}
 
 -- A generation's pattern of a number that it has room for.
 pub record Pictured (d : Dealing) (b first h h′ x : ℕ) (p : List ℕ) : Type 0 where
@@ -90,66 +92,66 @@ Tells first (miscounted j u) i x = ⊥
 Tells first (beyond j) i x = ⊥
 
 -- a test and a reading of generation j, which is the one that is read
-judged-which : (t u : Bool) (j x k i y : ℕ) → cond t (cond u (reads j x) (beyond j)) (miscounted j k) ≡ reads i y → i ≡ j
-judged-which true true j x k i y h = cc
-judged-which true false j x k i y h = cc
-judged-which false u j x k i y h = cc
+read-at-which : (t u : Bool) (j x k i y : ℕ) → cond t (cond u (reads j x) (beyond j)) (miscounted j k) ≡ reads i y → i ≡ j
+read-at-which true true j x k i y h = cc
+read-at-which true false j x k i y h = cc
+read-at-which false u j x k i y h = cc
 
-judged-some : (t u : Bool) (j x k : ℕ) → cond t (cond u (reads j x) (beyond j)) (miscounted j k) ≡ blank → ⊥
-judged-some true true j x k h = clash (cc)
-judged-some true false j x k h = clash (cc)
-judged-some false u j x k h = clash (cc)
+read-at-some : (t u : Bool) (j x k : ℕ) → cond t (cond u (reads j x) (beyond j)) (miscounted j k) ≡ blank → ⊥
+read-at-some true true j x k h = clash (cc)
+read-at-some true false j x k h = clash (cc)
+read-at-some false u j x k h = clash (cc)
 
 module _ (c : Code) where
-  -- blank groups read as such, others as they are judged where their zero groups point
+  -- blank groups read as such, others as they are read where their zero groups point
   pub read-blank : (gs : List ℕ) → written gs ≡ 0 → read c gs ≡ blank
   unfolding read
   read-blank gs z = rw (eq-eqb (written gs) 0 z)
 
-  pub read-judged : (gs : List ℕ) (n : ℕ) → 0 < written gs → past (c .counts) (zeros gs) ≡ n → read c gs ≡ judged c gs n
+  pub read-at-place : (gs : List ℕ) (n : ℕ) → 0 < written gs → past (c .counts) (zeros gs) ≡ n → read c gs ≡ readAt c gs n
   unfolding read
-  read-judged gs n w a = rw (ne-eqb (written gs) 0 (λ q. omega arith), a)
+  read-at-place gs n w a = rw (ne-eqb (written gs) 0 (λ q. omega arith), a)
 
-  pub judged-reads : (gs p : List ℕ) (n x : ℕ) → carriers (erased c) n gs ≡ p → length p ≡ generationAt c n .places → told (generationAt c n .dealing) p ≡ x →
-      x < generationAt c n .range → judged c gs n ≡ reads (suc n) x
-  unfolding judged
-  judged-reads gs p n x k l t h = rw (k, t, eq-eqb (length p) (generationAt c n .places) l, lt-ltb x (generationAt c n .range) h)
+  pub read-at-reads : (gs p : List ℕ) (n x : ℕ) → carriers (erased c) n gs ≡ p → length p ≡ generationAt c n .places → told (generationAt c n .dealing) p ≡ x →
+      x < generationAt c n .range → readAt c gs n ≡ reads (suc n) x
+  unfolding readAt
+  read-at-reads gs p n x k l t h = rw (k, t, eq-eqb (length p) (generationAt c n .places) l, lt-ltb x (generationAt c n .range) h)
 
   -- where a reading fails: another count of places, or a number beyond the range
-  pub judged-miscounted : (gs p : List ℕ) (n : ℕ) → carriers (erased c) n gs ≡ p → (length p ≡ generationAt c n .places → ⊥) →
-      judged c gs n ≡ miscounted (suc n) (length p)
-  unfolding judged
-  judged-miscounted gs p n k d = rw (k, ne-eqb (length p) (generationAt c n .places) d)
+  pub read-at-miscounted : (gs p : List ℕ) (n : ℕ) → carriers (erased c) n gs ≡ p → (length p ≡ generationAt c n .places → ⊥) →
+      readAt c gs n ≡ miscounted (suc n) (length p)
+  unfolding readAt
+  read-at-miscounted gs p n k d = rw (k, ne-eqb (length p) (generationAt c n .places) d)
 
-  pub judged-beyond : (gs p : List ℕ) (n x : ℕ) → carriers (erased c) n gs ≡ p → length p ≡ generationAt c n .places → told (generationAt c n .dealing) p ≡ x →
-      generationAt c n .range ≤ x → judged c gs n ≡ beyond (suc n)
-  unfolding judged
-  judged-beyond gs p n x k l t h = rw (k, t, eq-eqb (length p) (generationAt c n .places) l, le-ltb x (generationAt c n .range) h)
+  pub read-at-beyond : (gs p : List ℕ) (n x : ℕ) → carriers (erased c) n gs ≡ p → length p ≡ generationAt c n .places → told (generationAt c n .dealing) p ≡ x →
+      generationAt c n .range ≤ x → readAt c gs n ≡ beyond (suc n)
+  unfolding readAt
+  read-at-beyond gs p n x k l t h = rw (k, t, eq-eqb (length p) (generationAt c n .places) l, le-ltb x (generationAt c n .range) h)
 
   read-is : (gs p : List ℕ) (n x : ℕ) → 0 < written gs → past (c .counts) (zeros gs) ≡ n → carriers (erased c) n gs ≡ p → length p ≡ generationAt c n .places →
       told (generationAt c n .dealing) p ≡ x → x < generationAt c n .range → read c gs ≡ reads (suc n) x
-  read-is gs p n x w a k l t h = read-judged gs n w a ∙ judged-reads gs p n x k l t h
+  read-is gs p n x w a k l t h = read-at-place gs n w a ∙ read-at-reads gs p n x k l t h
 
   pub blank-read : (gs : List ℕ) → read c gs ≡ blank → written gs ≡ 0
-  unfolding judged
+  unfolding readAt
   blank-read gs r = elim (le-or-lt (written gs) 0) [
     | inl z ↦ omega arith
     | inr w ↦
         let n = past (c .counts) (zeros gs) in
         let xs = carriers (erased c) n gs in
         let x = told (generationAt c n .dealing) xs in
-        absurd (judged-some (eqb (length xs) (generationAt c n .places)) (ltb x (generationAt c n .range)) (suc n) x (length xs) (sym (read-judged gs n w refl) ∙ r))
+        absurd (read-at-some (eqb (length xs) (generationAt c n .places)) (ltb x (generationAt c n .range)) (suc n) x (length xs) (sym (read-at-place gs n w refl) ∙ r))
   ]
 
   pub read-past : (gs : List ℕ) (i y : ℕ) → read c gs ≡ reads i y → i ≡ suc (past (c .counts) (zeros gs))
-  unfolding judged
+  unfolding readAt
   read-past gs i y r = elim (le-or-lt (written gs) 0) [
     | inl z ↦ clash (cc (read-blank gs (omega arith)))
     | inr w ↦
         let n = past (c .counts) (zeros gs) in
         let xs = carriers (erased c) n gs in
         let x = told (generationAt c n .dealing) xs in
-        judged-which (eqb (length xs) (generationAt c n .places)) (ltb x (generationAt c n .range)) (suc n) x (length xs) i y (sym (read-judged gs n w refl) ∙ r)
+        read-at-which (eqb (length xs) (generationAt c n .places)) (ltb x (generationAt c n .range)) (suc n) x (length xs) i y (sym (read-at-place gs n w refl) ∙ r)
   ]
 
   -- Where a write goes.
@@ -165,7 +167,7 @@ module _ (c : Code) where
   unfolding writeAt
   write-taken x gs n l h = rw (lt-ltb n (length (c .counts)) l, lt-ltb x (generationAt c n .range) h)
 
-  write-at : (x : ℕ) (gs : List ℕ) (n i : ℕ) (gs′ : List ℕ) → writeAt c x gs n ≡ wrote i gs′ →
+  pub write-at : (x : ℕ) (gs : List ℕ) (n i : ℕ) (gs′ : List ℕ) → writeAt c x gs n ≡ wrote i gs′ →
       (n < length (c .counts)) × (x < generationAt c n .range) × (i ≡ suc n) × (gs′ ≡ after c n x gs)
   unfolding writeAt
   write-at x gs n i gs′ w =
@@ -189,20 +191,25 @@ module _ (c : Code) where
     pub small : Upto (erased c) gs′
     pub grows : Grows (erased c) gs gs′
 
+  -- document 01's choice: the leftmost zero groups, as many as there are more than places
+  abbrev pub own : ℕ → List ℕ → List Bool
+  own n gs = leftmost (zeros gs - generationAt c n .places) gs
+
   module _ (y : Layout c) where
     points : (n z : ℕ) → generationAt c n .next ≤ z → (n ≡ 0) ⊎ (z < generationAt c n .places) → past (c .counts) z ≡ n
     points n z = past-is (erased c) (erased c) (c .first) (c .counts) (c .ranges) n z (y .holds)
 
-    pub after-is : (n x : ℕ) (gs : List ℕ) → n < length (c .counts) → x < generationAt c n .range → length gs ≡ width c → Ready (c .counts) n gs →
-        After n x gs (after c n x gs)
-    unfolding after cleared carriers dealt
-    after-is zero x gs nl hx l r =
+    -- Reading back, over any choice that leaves as many zero groups as the generation has places.
+    pub after-by : (n x : ℕ) (ks : List Bool) (gs : List ℕ) → n < length (c .counts) → x < generationAt c n .range → length gs ≡ width c →
+        zeros (clearedBy (erased c) n ks gs) ≡ generationAt c n .places → After n x gs (afterBy c ks n x gs)
+    unfolding afterBy clearedBy carriers dealt
+    after-by zero x ks gs nl hx l ex =
         let g = generationAt c 0 in
         let p = pattern (g .dealing) (g .places) x in
         let e = erased c in
         let q = pattern-is e e (c .first) (g .places) (g .next) x (omega (arith, y .wide)) (omega arith) (omega (arith, y .wide)) (y .form) (falls c y 0 nl)
         (omega (arith, fits c y 0 nl)) in
-        let same : lay gs p ≡ p = lay-blank gs p r (q .long ∙ sym l) in
+        let same : lay gs p ≡ p = lay-blank gs p (zeros-blank gs (ex ∙ sym l)) (q .long ∙ sym l) in
         rw same (record {
           long = q .long ∙ sym l;
           small = q .small;
@@ -212,32 +219,46 @@ module _ (c : Code) where
           marked = λ f. omega (arith, q .low);
           grows = rw same at (lay-grows (erased c) gs p);
         })
-    after-is (suc n) x gs nl hx l r =
+    after-by (suc n) x ks gs nl hx l ex =
         let e = erased c in
         let g = generationAt c (suc n) in
         let p = pattern (g .dealing) (g .places) x in
         let q = pattern-is e (e - 1) 1 (g .places) (g .next) x (omega (arith, y .wide)) (omega arith) (omega (arith, y .wide)) (omega arith) (falls c y (suc n) nl)
         (omega (arith, fits c y (suc n) nl)) in
-        let k = zeros gs - g .places in
         let pos : 0 < e = omega (arith, y .wide) in
-        let gs′ = lay (erase e k gs) p in
-        let a = lay-is e (erase e k gs) p pos (erase-wiped e k gs) (omega (arith, q .long, erase-zeros e k gs pos)) (q .small) in
+        let gs′ = lay (eraseBy e ks gs) p in
+        let a = lay-is e (eraseBy e ks gs) p pos (by-wiped e ks gs) (q .long ∙ sym ex) (q .small) in
         let z : zeros p < g .places = omega (arith, zeros-written p, q .long, q .low) in
         record {
-          long = a .long ∙ erase-length e k gs;
+          long = a .long ∙ by-length e ks gs;
           small = a .small;
           back = λ w. read-is gs′ p (suc n) x w (points (suc n) (zeros gs′) (rw (a .left) (q .keeps)) (inr (rw (a .left) z))) (a .carried) (q .long) (q .back) hx;
           tells = rw (a .carried) (q .back);
           ready = rw (a .left) (q .keeps);
-          marked = λ f. omega (arith, a .left, a .long, erase-length e k gs, zeros-written gs′, head-most e e (c .first) (c .counts) (c .ranges) (suc n) (y .holds));
-          grows = erase-lay-grows e k gs p pos;
+          marked = λ f. omega (arith, a .left, a .long, by-length e ks gs, zeros-written gs′, head-most e e (c .first) (c .counts) (c .ranges) (suc n) (y .holds));
+          grows = by-grows e ks gs p pos;
         }
 
+    -- Document 01's choice leaves as many as there are places.
+    pub own-exact : (n : ℕ) (gs : List ℕ) → length gs ≡ width c → Ready (c .counts) n gs → zeros (clearedBy (erased c) n (own n gs) gs) ≡ generationAt c n .places
+    unfolding clearedBy erase
+    own-exact zero gs l r = blank-zeros gs r ∙ l
+    own-exact (suc n) gs l r =
+        omega (arith, erase-zeros (erased c) (zeros gs - generationAt c (suc n) .places) gs (omega (arith, y .wide)))
+
+    pub after-is : (n x : ℕ) (gs : List ℕ) → n < length (c .counts) → x < generationAt c n .range → length gs ≡ width c → Ready (c .counts) n gs →
+        After n x gs (after c n x gs)
+    unfolding after
+    after-is n x gs nl hx l r = after-by n x (own n gs) gs nl hx l (own-exact n gs l r)
+
     -- generation 1 deals patterns
+    pub first-dealing : generationAt c 0 .dealing ≡ Patterns (erased c) (c .first)
+    unfolding dealt
+    first-dealing = deals-before (erased c) (erased c) (c .first) (getD (c .counts) 1 0) (omega (arith, falls c y 1 (y .two)))
+
     pub first-tells : (x : ℕ) (gs gs′ : List ℕ) → After 0 x gs gs′ → number (erased c) (c .first) gs′ ≡ x
-    unfolding told carriers dealt
-    first-tells x gs gs′ a =
-        rw (deals-before (erased c) (erased c) (c .first) (getD (c .counts) 1 0) (omega (arith, falls c y 1 (y .two)))) at (a .tells)
+    unfolding told carriers
+    first-tells x gs gs′ a = rw first-dealing at (a .tells)
 
     -- cells that a write leaves blank were written at generation 1 with number 0, where that writes no place
     after-blank : (n x : ℕ) (gs gs′ : List ℕ) → After n x gs gs′ → written gs′ ≡ 0 → (c .first ≡ 0) × (n ≡ 0) × (x ≡ 0)

@@ -2,14 +2,19 @@
 use Prim.Native.Nat.{ℕ, zero, suc, _+_, _-_, _≤_, _<_}
 use mathlib.Core.Path.{_≡_, refl, ap, _∙_}
 use mathlib.Core.Logic.{_⊎_, inl, inr}
+use mathlib.Core.Bool.{Bool, true, false}
 use mathlib.Core.List.{List, [], _∷_, _++_}
 use native.Mathlib.Omega.{arith}
 use native.Mathlib.Decide.{ℕ-discrete}
 use lib.ListN.{length, replicate}
 use borrow.Author.Tests.{eq-eqb, ne-eqb}
 use Rattle.code.specs.Deal.{written}
-use Rattle.code.specs.Field.{zeros, unerased, erase, lay}
+use Rattle.code.specs.Field.{zeros, unerased, eraseBy, leftmost, lay}
 use Rattle.code.specs.Lists.{Upto}
+
+-- erasing by document 01's choice: what is not zero, and of the zero groups the leftmost, so many of them (RULES 6)
+unfoldable pub erase : ℕ → ℕ → List ℕ → List ℕ
+erase e spare gs = eraseBy e (leftmost spare gs) gs
 
 -- as many groups; each was 0, or is as it was, or is e
 abbrev pub Grows : ℕ → List ℕ → List ℕ → Type 0
@@ -48,27 +53,39 @@ unfolding lay
 lay-skip zero xs ps h = absurd (omega arith)
 lay-skip (suc x) xs ps h = refl
 
--- erasing leaves zeros and e, and `spare` zeros fewer
+-- any choice leaves zeros and e, as many groups, and only grows; what was nonzero is e
+pub by-wiped : (e : ℕ) (ks : List Bool) (gs : List ℕ) → Wiped e (eraseBy e ks gs)
+unfolding eraseBy
+by-wiped e ks [] = tt
+by-wiped e [] (zero ∷ gs) = (inl refl, by-wiped e [] gs)
+by-wiped e [] (suc x ∷ gs) = (inr refl, by-wiped e [] gs)
+by-wiped e (true ∷ ks) (zero ∷ gs) = (inr refl, by-wiped e ks gs)
+by-wiped e (false ∷ ks) (zero ∷ gs) = (inl refl, by-wiped e ks gs)
+by-wiped e (k ∷ ks) (suc x ∷ gs) = (inr refl, by-wiped e ks gs)
+
+pub by-length : (e : ℕ) (ks : List Bool) (gs : List ℕ) → length (eraseBy e ks gs) ≡ length gs
+unfolding eraseBy
+by-length e ks [] = refl
+by-length e [] (zero ∷ gs) = ap suc (by-length e [] gs)
+by-length e [] (suc x ∷ gs) = ap suc (by-length e [] gs)
+by-length e (k ∷ ks) (zero ∷ gs) = ap suc (by-length e ks gs)
+by-length e (k ∷ ks) (suc x ∷ gs) = ap suc (by-length e ks gs)
+
+-- so does erasing the leftmost, which leaves `spare` zeros fewer
 pub erase-wiped : (e spare : ℕ) (gs : List ℕ) → Wiped e (erase e spare gs)
 unfolding erase
-erase-wiped e spare [] = tt
-erase-wiped e spare (suc x ∷ gs) = (inr refl, erase-wiped e spare gs)
-erase-wiped e zero (zero ∷ gs) = (inl refl, erase-wiped e zero gs)
-erase-wiped e (suc spare) (zero ∷ gs) = (inr refl, erase-wiped e spare gs)
+erase-wiped e spare gs = by-wiped e (leftmost spare gs) gs
+
+pub erase-length : (e spare : ℕ) (gs : List ℕ) → length (erase e spare gs) ≡ length gs
+unfolding erase
+erase-length e spare gs = by-length e (leftmost spare gs) gs
 
 pub erase-zeros : (e spare : ℕ) (gs : List ℕ) → 0 < e → zeros (erase e spare gs) ≡ zeros gs - spare
-unfolding erase zeros
+unfolding erase eraseBy leftmost zeros
 erase-zeros e spare [] pos = omega arith
 erase-zeros e spare (suc x ∷ gs) pos = zeros-skip e (erase e spare gs) pos ∙ erase-zeros e spare gs pos
 erase-zeros e zero (zero ∷ gs) pos = omega (arith, erase-zeros e zero gs pos)
 erase-zeros e (suc spare) (zero ∷ gs) pos = omega (arith, zeros-skip e (erase e spare gs) pos, erase-zeros e spare gs pos)
-
-pub erase-length : (e spare : ℕ) (gs : List ℕ) → length (erase e spare gs) ≡ length gs
-unfolding erase
-erase-length e spare [] = refl
-erase-length e spare (suc x ∷ gs) = ap suc (erase-length e spare gs)
-erase-length e zero (zero ∷ gs) = ap suc (erase-length e zero gs)
-erase-length e (suc spare) (zero ∷ gs) = ap suc (erase-length e spare gs)
 
 -- a pattern of values below e laid into all the zero groups is what is not erased
 pub record Laid (e : ℕ) (gs p after : List ℕ) : Type 0 where
@@ -111,13 +128,16 @@ lay-grows e (suc x ∷ gs) p = (inr (inl refl), lay-grows e gs p)
 lay-grows e (zero ∷ gs) [] = (inl refl, lay-grows e gs [])
 lay-grows e (zero ∷ gs) (y ∷ p) = (inl refl, lay-grows e gs p)
 
-pub erase-lay-grows : (e spare : ℕ) (gs p : List ℕ) → 0 < e → Grows e gs (lay (erase e spare gs) p)
-unfolding lay erase
-erase-lay-grows e spare [] p pos = tt
-erase-lay-grows e spare (suc x ∷ gs) p pos = rw (lay-skip e (erase e spare gs) p pos) (inr (inr refl), erase-lay-grows e spare gs p pos)
-erase-lay-grows e zero (zero ∷ gs) [] pos = (inl refl, erase-lay-grows e zero gs [] pos)
-erase-lay-grows e zero (zero ∷ gs) (y ∷ p) pos = (inl refl, erase-lay-grows e zero gs p pos)
-erase-lay-grows e (suc spare) (zero ∷ gs) p pos = rw (lay-skip e (erase e spare gs) p pos) (inl refl, erase-lay-grows e spare gs p pos)
+pub by-grows : (e : ℕ) (ks : List Bool) (gs p : List ℕ) → 0 < e → Grows e gs (lay (eraseBy e ks gs) p)
+unfolding eraseBy lay
+by-grows e ks [] p pos = tt
+by-grows e [] (zero ∷ gs) [] pos = (inl refl, by-grows e [] gs [] pos)
+by-grows e [] (zero ∷ gs) (y ∷ p) pos = (inl refl, by-grows e [] gs p pos)
+by-grows e [] (suc x ∷ gs) p pos = rw (lay-skip e (eraseBy e [] gs) p pos) (inr (inr refl), by-grows e [] gs p pos)
+by-grows e (true ∷ ks) (zero ∷ gs) p pos = rw (lay-skip e (eraseBy e ks gs) p pos) (inl refl, by-grows e ks gs p pos)
+by-grows e (false ∷ ks) (zero ∷ gs) [] pos = (inl refl, by-grows e ks gs [] pos)
+by-grows e (false ∷ ks) (zero ∷ gs) (y ∷ p) pos = (inl refl, by-grows e ks gs p pos)
+by-grows e (k ∷ ks) (suc x ∷ gs) p pos = rw (lay-skip e (eraseBy e ks gs) p pos) (inr (inr refl), by-grows e ks gs p pos)
 
 -- what is not erased has the same zero groups
 pub unerased-zeros : (e : ℕ) (gs : List ℕ) → 0 < e → zeros (unerased e gs) ≡ zeros gs
@@ -137,7 +157,7 @@ pub zeros-blank : (gs : List ℕ) → zeros gs ≡ length gs → written gs ≡ 
 zeros-blank gs z = omega (arith, zeros-written gs)
 
 pub erase-blank : (e : ℕ) (gs : List ℕ) → written gs ≡ 0 → erase e 0 gs ≡ gs
-unfolding erase written
+unfolding erase eraseBy leftmost written
 erase-blank e [] z = refl
 erase-blank e (zero ∷ gs) z = ap (λ (t : List ℕ). 0 ∷ t) (erase-blank e gs z)
 erase-blank e (suc x ∷ gs) z = absurd (omega arith)
@@ -157,7 +177,7 @@ unerased-padded e (suc k) [] = rw (eq-eqb e e refl) (unerased-padded e k [])
 unerased-padded e k (x ∷ gs) = rw (unerased-padded e k gs)
 
 pub erase-padded : (f spare k : ℕ) (gs : List ℕ) → erase (suc f) spare (gs ++ replicate k (suc f)) ≡ erase (suc f) spare gs ++ replicate k (suc f)
-unfolding erase
+unfolding erase eraseBy leftmost
 erase-padded f spare zero [] = refl
 erase-padded f spare (suc k) [] = ap (_∷_ (suc f)) (erase-padded f spare k [])
 erase-padded f spare k (suc x ∷ gs) = ap (_∷_ (suc f)) (erase-padded f spare k gs)

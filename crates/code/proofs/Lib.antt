@@ -7,12 +7,15 @@ pub mod Conditions
 pub mod Grant
 pub mod CountSteps
 pub mod Groups
+pub mod Choices
 pub mod Field
+pub mod Judge
 pub mod Run
 pub mod Numbers
 pub mod Wits
 pub mod Cells
 pub mod Bytes
+pub mod JudgeCells
 pub mod LayoutCall
 pub mod SameCode
 pub mod ReadCall
@@ -51,3 +54,5 @@ pub mod HexCalls
 pub mod Many
 pub mod ManyExamples
 pub mod RangesAlike
+pub mod JudgeCall
+pub mod JudgeExamples

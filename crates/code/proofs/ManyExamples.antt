@@ -8,7 +8,8 @@ use Rattle.code.specs.Layout.{counts, grant}
 use Rattle.code.specs.Deal.{written, rank, digits, number, laid, places, deal, plain, plainly}
 use Rattle.code.specs.Cells.{bitPlace, wit, value, listed, sum, group, groups, sound, witOf, byteOf, stored, ones, turned}
 use Rattle.code.specs.Code.{dealt, told, pattern, room, deals}
-use Rattle.code.specs.Field.{zeros, unerased, past, carriers, judged, read, erase, cleared, lay, after, writeAt, writeOn, write}
+use Rattle.code.specs.Field.{zeros, unerased, past, carriers, readAt, read, eraseBy, leftmost, clearedBy, afterBy, lay, after, writeAt, writeOn, write}
+use Rattle.code.proofs.Groups.{erase}
 use Rattle.code.specs.Run.{kept}
 use Rattle.code.specs.declared.Shape.{Shape}
 use Rattle.code.specs.Shape.{single, shaped, firstOf, rangesDue, given, rangesOf, allRanges, orderOf, outside, granted, misfit, countsOf, widthOf}
@@ -40,5 +41,5 @@ pub many-worked :
     × Made (shaped 2 3 4) [] [] 0 0 0 0 none [] [] []
     × Made (shaped 5 3 4) (replicate 65 0) (0x00 ∷ []) 14 0 0 0 none [] [] (0x00 ∷ [])
     × Made (shaped 5 3 4) (replicate 64 0) (0x00 ∷ []) 1 0 0 0 none [] [] (0x00 ∷ [])
-unfolding choose fewer least room deals counts grant written rank digits number laid places deal plain plainly bitPlace wit value listed sum group groups sound witOf byteOf stored ones turned zeros unerased past dealt carriers told pattern judged read erase cleared lay after writeAt writeOn write kept readCells storing writeCells refusal answer passes leaves filled firstOf rangesDue given rangesOf allRanges orderOf outside granted misfit countsOf widthOf generation fieldRead fieldWrite unsound miscounts exceeds countTold spent taker overRange overTaker writeRefusal madeAt writeReply writeLeaves fieldBytes manyReplies manyCells manyRefusal madeReplies stopReply manyNumbers manyTold manyReply manyLeaves
+unfolding choose fewer least room deals counts grant written rank digits number laid places deal plain plainly bitPlace wit value listed sum group groups sound witOf byteOf stored ones turned zeros unerased past dealt carriers told pattern readAt read erase eraseBy leftmost clearedBy afterBy lay after writeAt writeOn write kept readCells storing writeCells refusal answer passes leaves filled firstOf rangesDue given rangesOf allRanges orderOf outside granted misfit countsOf widthOf generation fieldRead fieldWrite unsound miscounts exceeds countTold spent taker overRange overTaker writeRefusal madeAt writeReply writeLeaves fieldBytes manyReplies manyCells manyRefusal madeReplies stopReply manyNumbers manyTold manyReply manyLeaves
 many-worked = ((refl, refl), (refl, refl), (refl, refl), (refl, refl), (refl, refl), (refl, refl), (refl, refl), (refl, refl), (refl, refl), (refl, refl), (refl, refl))

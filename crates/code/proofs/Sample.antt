@@ -9,7 +9,7 @@ use Rattle.code.specs.Layout.{counts, grant}
 use Rattle.code.specs.Deal.{written, rank, digits, number, plain}
 use Rattle.code.specs.Cells.{bitPlace, wit, value, listed, group, groups, sound}
 use Rattle.code.specs.Code.{dealt, told, room, deals}
-use Rattle.code.specs.Field.{zeros, unerased, past, carriers, judged, read}
+use Rattle.code.specs.Field.{zeros, unerased, past, carriers, readAt, read}
 use Rattle.code.specs.Shape.{firstOf, rangesDue, given, rangesOf, allRanges, orderOf, outside, granted, misfit, countsOf, widthOf}
 use Rattle.code.specs.Calls.{readCells, refusal, answer, filled, readFields, fieldRead, unsound, numberless, miscounts, exceeds, countTold, generation, holds, left, readRefusal, readReply}
 use Rattle.code.specs.Numerals.{longer, readSevens, preceded, readNumbers}
@@ -31,5 +31,5 @@ pub sampled :
     300 ∷ 2 ∷ 2 ∷ 20 ∷ 12 ∷ 2 ∷ 0 ∷ 1 ∷ 1 ∷ 1 ∷ 0 ∷
     8 ∷ 2 ∷ 3 ∷ 4 ∷ 19 ∷ 1 ∷ 0 ∷ 1 ∷ 0 ∷ 3 ∷ 0 ∷
     9 ∷ 2 ∷ 2 ∷ 20 ∷ 25 ∷ 2 ∷ 16 ∷ 1 ∷ 0 ∷ 0 ∷ 0 ∷ 1 ∷ [])
-unfolding choose fewer least room deals counts grant written rank digits number plain bitPlace wit value listed group groups sound zeros unerased past dealt carriers told judged read readCells refusal answer filled readFields firstOf rangesDue given rangesOf allRanges orderOf outside granted misfit countsOf widthOf fieldRead unsound numberless miscounts exceeds countTold generation holds left readRefusal readReply longer readSevens preceded readNumbers recordBy outOfList broken found stepIn openingAs opening stepOn step cellsOf outcome walkFrom startOf walk rowNumbers rowsOf walkLeaves ascii spelled recordLine lastLine stopLines lines listing
+unfolding choose fewer least room deals counts grant written rank digits number plain bitPlace wit value listed group groups sound zeros unerased past dealt carriers told readAt read readCells refusal answer filled readFields firstOf rangesDue given rangesOf allRanges orderOf outside granted misfit countsOf widthOf fieldRead unsound numberless miscounts exceeds countTold generation holds left readRefusal readReply longer readSevens preceded readNumbers recordBy outOfList broken found stepIn openingAs opening stepOn step cellsOf outcome walkFrom startOf walk rowNumbers rowsOf walkLeaves ascii spelled recordLine lastLine stopLines lines listing
 sampled = (refl, refl, refl)

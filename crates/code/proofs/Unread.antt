@@ -15,11 +15,11 @@ use Rattle.code.specs.Shape.{firstOf, rangesOf, orderOf, countsOf, width
 use Rattle.code.specs.Cells.{wit, opened, sound}
 use Rattle.code.specs.Deal.{written}
 use Rattle.code.specs.Code.{erased, generationAt, told}
-use Rattle.code.specs.Field.{zeros, unerased, past, carriers, Reading, blank, reads, miscounted, beyond, judged}
+use Rattle.code.specs.Field.{zeros, unerased, past, carriers, Reading, blank, reads, miscounted, beyond, readAt}
 use Rattle.code.specs.Calls.{readCells, layoutRefusal, fieldRead, numberless, miscounts, exceeds, overRange, generation, holds, left, readReply, writeReply, refusalIn}
 use Rattle.code.proofs.Tests.{le-or-lt, clash}
 use Rattle.code.proofs.Cells.{groups-length}
-use Rattle.code.proofs.Field.{past-next, past-is, past-below, read-blank, read-judged, judged-reads, judged-miscounted, judged-beyond}
+use Rattle.code.proofs.Field.{past-next, past-is, past-below, read-blank, read-at-place, read-at-reads, read-at-miscounted, read-at-beyond}
 use Rattle.code.proofs.LayoutCall.{bounded, counts-length, is-layout}
 use Rattle.code.proofs.ReadCall.{read-unsound, read-none, read-miscounted, read-beyond, read-found}
 use Rattle.code.proofs.WriteCall.{write-miscounted, write-beyond}
@@ -107,9 +107,9 @@ module _ (s : Shape) (bs : List ℕ) where
   some-written : (AllZero → ⊥) → 0 < written field
   some-written n = elim (le-or-lt (written field) 0) [ inl z ↦ absurd (n (zero-all field (omega arith))) | inr l ↦ l ]
 
-  judged-here : (AllZero → ⊥) → fieldRead s bs ≡ judged (codeOf s) field place
+  here-read : (AllZero → ⊥) → fieldRead s bs ≡ readAt (codeOf s) field place
   unfolding fieldRead readCells widthOf
-  judged-here n = read-judged (codeOf s) field place (some-written n) refl
+  here-read n = read-at-place (codeOf s) field place (some-written n) refl
 
   -- as many places as the generation has: at generation 1 all groups are
   places-right : (n : ℕ) → (1 < suc n → unerasedMany ≡ getD (countsOf s) n 0) → length (carriers full n field) ≡ getD (countsOf s) n 0
@@ -124,13 +124,13 @@ module _ (s : Shape) (bs : List ℕ) where
 
   module _ (n : AllZero → ⊥) where
     found-number : RightCount → InRange → fieldRead s bs ≡ reads pointed (numberAt place)
-    found-number c v = judged-here n ∙ judged-reads (codeOf s) field _ place (numberAt place) refl (places-right place c) refl v
+    found-number c v = here-read n ∙ read-at-reads (codeOf s) field _ place (numberAt place) refl (places-right place c) refl v
 
     found-beyond : RightCount → getD (rangesOf s) place 0 ≤ numberAt place → fieldRead s bs ≡ beyond pointed
-    found-beyond c v = judged-here n ∙ judged-beyond (codeOf s) field _ place (numberAt place) refl (places-right place c) refl v
+    found-beyond c v = here-read n ∙ read-at-beyond (codeOf s) field _ place (numberAt place) refl (places-right place c) refl v
 
     found-miscounted : 1 < pointed → (unerasedMany ≡ getD (countsOf s) place 0 → ⊥) → fieldRead s bs ≡ miscounted pointed unerasedMany
-    found-miscounted l d = judged-here n ∙ judged-miscounted (codeOf s) field (unerased full field) place (places-later place l) d
+    found-miscounted l d = here-read n ∙ read-at-miscounted (codeOf s) field (unerased full field) place (places-later place l) d
 
   -- a reading is told by these sentences: blank, a number, or the reason why there is none
   by-sentences : (P : Reading → Type 0) → (AllZero → P blank) → ((AllZero → ⊥) → RightCount → InRange → P (reads pointed (numberAt place))) →

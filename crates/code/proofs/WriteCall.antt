@@ -14,7 +14,8 @@ use Rattle.code.specs.declared.Shape.{Shape}
 use Rattle.code.specs.Shape.{firstOf, rangesOf, orderOf, outside, misfit, granted, countsOf, widthOf, codeOf}
 use Rattle.code.specs.Cells.{opened, sound, stored, turned}
 use Rattle.code.specs.Code.{generationAt, pattern, room}
-use Rattle.code.specs.Field.{zeros, past, Reading, blank, reads, miscounted, beyond, read, erase, cleared, lay, after, Writing, refused, wrote, writeAt, writeOn, write}
+use Rattle.code.specs.Field.{zeros, past, Reading, blank, reads, miscounted, beyond, read, clearedBy, afterBy, lay, after, Writing, refused, wrote, writeAt, writeOn, write}
+use Rattle.code.proofs.Groups.{erase}
 use Rattle.code.specs.Run.{kept}
 use Rattle.code.proofs.Run.{accepted}
 use Rattle.code.specs.Calls.{groupsIn, readCells, storing, writeCells, refusal, answer, passes, leaves, layoutRefusal, fieldRead, fieldWrite, unsound, generation, miscounts, exceeds, countTold, spent, taker, overRange, overTaker, writeRefusal, madeAt, writeReply, writeLeaves}
@@ -147,7 +148,7 @@ module _ (s : Shape) (ok : layoutRefusal s 256 ≡ []) where
   -- the spare groups are those above the generation's count; blank groups have none
   pub after-erased : (n x : ℕ) (gs : List ℕ) → Ready (countsOf s) n gs → length gs ≡ widthOf s →
       after (codeOf s) n x gs ≡ lay (erase full (zeros gs - getD (countsOf s) n 0) gs) (patternAt n x)
-  unfolding after cleared widthOf
+  unfolding after afterBy clearedBy erase widthOf
   after-erased zero x gs r l =
       let z : zeros gs - getD (countsOf s) 0 0 ≡ 0 = omega (arith, blank-zeros gs r) in
       rw (z, erase-blank full gs r)

@@ -16,3 +16,5 @@ pub mod Listing
 pub mod Hex
 pub mod NewDump
 pub mod Many
+pub mod Judge
+pub mod JudgeCall

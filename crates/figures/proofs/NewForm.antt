@@ -7,7 +7,8 @@ use Rattle.code.specs.Layout.{counts, grant}
 use Rattle.code.specs.Deal.{written, rank, digits, number, laid, places, deal, plain, plainly}
 use Rattle.code.specs.Cells.{bitPlace, wit, value, listed, sum, group, groups, sound, witOf, byteOf, stored, ones, turned}
 use Rattle.code.specs.Code.{dealt, told, pattern, room, deals}
-use Rattle.code.specs.Field.{zeros, unerased, past, carriers, judged, read, erase, cleared, lay, after, writeAt, writeOn, write}
+use Rattle.code.specs.Field.{zeros, unerased, past, carriers, readAt, read, eraseBy, leftmost, clearedBy, afterBy, lay, after, writeAt, writeOn, write}
+use Rattle.code.proofs.Groups.{erase}
 use Rattle.code.specs.Run.{kept}
 use Rattle.code.specs.declared.Shape.{Shape}
 use Rattle.code.specs.Shape.{single, shaped, firstOf, rangesDue, given, rangesOf, allRanges, orderOf, outside, granted, misfit, countsOf, widthOf}
@@ -31,7 +32,7 @@ pub lists-differ :
     × (layoutReply (new 4 2 46) 256 ≡ 0 ∷ 4 ∷ 2 ∷ [])
     × (layoutReply (new 2 3 4) 256 ≡ 0 ∷ 4 ∷ 3 ∷ 2 ∷ [])
     × (layoutReply (single 3 2 2 20) 256 ≡ 1 ∷ [])
-unfolding choose fewer least room deals counts grant written rank digits number laid places deal plain plainly bitPlace wit value listed sum group groups sound witOf byteOf stored ones turned zeros unerased past dealt carriers told pattern judged read erase cleared lay after writeAt writeOn write kept readCells storing writeCells refusal answer leaves firstOf rangesDue given rangesOf allRanges orderOf outside granted misfit countsOf widthOf layoutRefusal layoutReply fieldRead fieldWrite unsound numberless miscounts exceeds countTold spent taker overRange overTaker generation holds left readRefusal readReply writeRefusal madeAt writeReply writeLeaves
+unfolding choose fewer least room deals counts grant written rank digits number laid places deal plain plainly bitPlace wit value listed sum group groups sound witOf byteOf stored ones turned zeros unerased past dealt carriers told pattern readAt read erase eraseBy leftmost clearedBy afterBy lay after writeAt writeOn write kept readCells storing writeCells refusal answer leaves firstOf rangesDue given rangesOf allRanges orderOf outside granted misfit countsOf widthOf layoutRefusal layoutReply fieldRead fieldWrite unsound numberless miscounts exceeds countTold spent taker overRange overTaker generation holds left readRefusal readReply writeRefusal madeAt writeReply writeLeaves
 lists-differ = (refl, refl, refl, refl, refl, refl, refl, refl)
 
 -- blank cells have no number; a written 0 turns cells; the numbers of generation 1 are those of form 0 less 1
@@ -47,5 +48,5 @@ pub worked-new :
     × (readReply (new 2 3 4) (0x08 ∷ []) ≡ 16 ∷ 1 ∷ [])
     × Written (new 2 3 4) 0 (0x01 ∷ []) (0 ∷ 2 ∷ 2 ∷ []) (0x07 ∷ [])
     × Written (new 2 3 4) 0 (0x1F ∷ []) (5 ∷ []) (0x1F ∷ [])
-unfolding choose fewer least room deals counts grant written rank digits number laid places deal plain plainly bitPlace wit value listed sum group groups sound witOf byteOf stored ones turned zeros unerased past dealt carriers told pattern judged read erase cleared lay after writeAt writeOn write kept readCells storing writeCells refusal answer leaves firstOf rangesDue given rangesOf allRanges orderOf outside granted misfit countsOf widthOf layoutRefusal layoutReply fieldRead fieldWrite unsound numberless miscounts exceeds countTold spent taker overRange overTaker generation holds left readRefusal readReply writeRefusal madeAt writeReply writeLeaves
+unfolding choose fewer least room deals counts grant written rank digits number laid places deal plain plainly bitPlace wit value listed sum group groups sound witOf byteOf stored ones turned zeros unerased past dealt carriers told pattern readAt read erase eraseBy leftmost clearedBy afterBy lay after writeAt writeOn write kept readCells storing writeCells refusal answer leaves firstOf rangesDue given rangesOf allRanges orderOf outside granted misfit countsOf widthOf layoutRefusal layoutReply fieldRead fieldWrite unsound numberless miscounts exceeds countTold spent taker overRange overTaker generation holds left readRefusal readReply writeRefusal madeAt writeReply writeLeaves
 worked-new = (refl, refl, refl, (refl, refl), (refl, refl), (refl, refl), (refl, refl), refl, refl, (refl, refl), (refl, refl))

@@ -9,7 +9,8 @@ use Rattle.code.specs.Layout.{counts, grant}
 use Rattle.code.specs.Deal.{written, rank, digits, number, laid, places, deal, plain, plainly}
 use Rattle.code.specs.Cells.{bitPlace, wit, value, listed, sum, group, groups, sound, witOf, byteOf, stored, ones, turned}
 use Rattle.code.specs.Code.{dealt, told, pattern, room, deals}
-use Rattle.code.specs.Field.{zeros, unerased, past, carriers, judged, read, erase, cleared, lay, after, writeAt, writeOn, write}
+use Rattle.code.specs.Field.{zeros, unerased, past, carriers, readAt, read, eraseBy, leftmost, clearedBy, afterBy, lay, after, writeAt, writeOn, write}
+use Rattle.code.proofs.Groups.{erase}
 use Rattle.code.specs.Run.{kept}
 use Rattle.code.specs.declared.Shape.{Shape}
 use Rattle.code.specs.Shape.{single, shaped, firstOf, rangesDue, given, rangesOf, allRanges, orderOf, outside, granted, misfit, countsOf, widthOf}
@@ -44,7 +45,7 @@ pub lists-ranged :
     × (layoutReply (ranged 2 3 (20 ∷ 4 ∷ [])) 256 ≡ 1 ∷ [])
     × (layoutReply (ranged 2 3 (20 ∷ 4 ∷ 2 ∷ 2 ∷ [])) 256 ≡ 1 ∷ [])
     × (layoutReply falling 3 ≡ 2 ∷ [])
-unfolding filled choose fewer least room deals counts grant written rank digits number laid places deal plain plainly bitPlace wit value listed sum group groups sound witOf byteOf stored ones turned zeros unerased past dealt carriers told pattern judged read erase cleared lay after writeAt writeOn write kept readCells storing writeCells refusal answer leaves firstOf rangesDue given rangesOf allRanges orderOf outside granted misfit countsOf widthOf layoutRefusal layoutReply fieldRead fieldWrite unsound numberless miscounts exceeds countTold spent taker overRange overTaker generation holds left readRefusal readReply writeRefusal madeAt writeReply writeLeaves
+unfolding filled choose fewer least room deals counts grant written rank digits number laid places deal plain plainly bitPlace wit value listed sum group groups sound witOf byteOf stored ones turned zeros unerased past dealt carriers told pattern readAt read erase eraseBy leftmost clearedBy afterBy lay after writeAt writeOn write kept readCells storing writeCells refusal answer leaves firstOf rangesDue given rangesOf allRanges orderOf outside granted misfit countsOf widthOf layoutRefusal layoutReply fieldRead fieldWrite unsound numberless miscounts exceeds countTold spent taker overRange overTaker generation holds left readRefusal readReply writeRefusal madeAt writeReply writeLeaves
 lists-ranged = (refl, refl, refl, refl, refl, refl, refl)
 
 -- steps that grow towards the first generations, and long ones
@@ -75,7 +76,7 @@ pub worked-ranged :
     × Written equal 9 (0x43 ∷ []) (16 ∷ 2 ∷ []) (0x43 ∷ [])
     × Written equal 9 (0x4F ∷ []) (5 ∷ []) (0x4F ∷ [])
     × (readReply falling (0x00 ∷ []) ≡ 11 ∷ [])
-unfolding filled choose fewer least room deals counts grant written rank digits number laid places deal plain plainly bitPlace wit value listed sum group groups sound witOf byteOf stored ones turned zeros unerased past dealt carriers told pattern judged read erase cleared lay after writeAt writeOn write kept readCells storing writeCells refusal answer leaves firstOf rangesDue given rangesOf allRanges orderOf outside granted misfit countsOf widthOf layoutRefusal layoutReply fieldRead fieldWrite unsound numberless miscounts exceeds countTold spent taker overRange overTaker generation holds left readRefusal readReply writeRefusal madeAt writeReply writeLeaves
+unfolding filled choose fewer least room deals counts grant written rank digits number laid places deal plain plainly bitPlace wit value listed sum group groups sound witOf byteOf stored ones turned zeros unerased past dealt carriers told pattern readAt read erase eraseBy leftmost clearedBy afterBy lay after writeAt writeOn write kept readCells storing writeCells refusal answer leaves firstOf rangesDue given rangesOf allRanges orderOf outside granted misfit countsOf widthOf layoutRefusal layoutReply fieldRead fieldWrite unsound numberless miscounts exceeds countTold spent taker overRange overTaker generation holds left readRefusal readReply writeRefusal madeAt writeReply writeLeaves
 worked-ranged = ((refl, refl), refl, (refl, refl), refl, (refl, refl), (refl, refl), refl, (refl, refl), (refl, refl), refl)
 
 -- a record with the numbers serial, layout, start and count

@@ -1,6 +1,6 @@
 -- The promises of the calls for C leave no choice: two answers that one of them allows are equal, and so is what they leave in lent memory. Those of
 -- `gorvlime_layout`, of `gorvlime_listed_shape` and of the walks are `unique` of layout/proofs/Unique, `unique-listed-shape`, `unique-walk` and
--- `unique-walk-new` of dump/proofs/Unique; those of the calls by their Rattle names stand there, in reading/proofs/Unique, writing/proofs/Unique,
+-- `unique-walk-new` of dump/proofs/Unique; those of the calls by their Rattle names stand there, in reading/proofs/Unique, writing/proofs/Unique, judging/proofs/Unique,
 -- moves/proofs/Unique and hex/proofs/Unique, but for `part`.
 use Prim.Native.Nat.{ℕ}
 use mathlib.Core.Path.{_≡_, sym, ap, _∙_}
@@ -8,6 +8,7 @@ use mathlib.Core.List.{List}
 use lib.ListN.{getD, take, drop}
 use Rattle.code.specs.declared.Shape.{Shape}
 use Rattle.code.specs.Calls.{filled, readFields, writeFields, readReply, writeReply, writeLeaves}
+use Rattle.code.specs.JudgeCall.{judgeReply, judgeFields}
 use Rattle.code.specs.declared.Kind.the-variants.{Old, New}
 use Rattle.code.specs.Export.{oldExport, newExport, exportReply, exportLeaves}
 use Rattle.code.specs.Dump.{openReply, stepReply}
@@ -16,6 +17,8 @@ use Rattle.code.specs.Hex.{hexExportReply, hexExportLeaves, hexImportReply, hex
 use Rattle.gorvlime.specs.Fields.{madeFields, openFields, movedFields, offsetFields, stepFields, newStepFields, newFoundFields, foundFields}
 use Rattle.reading.specs.declared.ReadFields.{ReadFields}
 use Rattle.reading.specs.Answers.{readFieldsOf}
+use Rattle.judging.specs.declared.JudgeFields.{JudgeFields}
+use Rattle.judging.specs.Answers.{judgeFieldsOf}
 use Rattle.writing.specs.declared.WriteFields.{WriteFields}
 use Rattle.writing.specs.Answers.{writeFieldsOf}
 use Rattle.gorvlime.specs.declared.c.MadeAnswer.{MadeAnswer}
@@ -27,6 +30,9 @@ use Rattle.gorvlime.specs.declared.c.NewStepAnswer.{NewStepAnswer}
 -- the struct whose fields are given: an answer is the struct of its own fields
 abbrev readingWith : List ℕ → ReadFields
 readingWith xs = record { refusal = getD xs 0 0; generation = getD xs 1 0; number = getD xs 2 0; left = getD xs 3 0; unerased = getD xs 4 0 }
+
+abbrev judgingWith : List ℕ → JudgeFields
+judgingWith xs = record { refusal = getD xs 0 0; yes = getD xs 1 0; number = getD xs 2 0; generation = getD xs 3 0; unerased = getD xs 4 0 }
 
 abbrev writingWith : List ℕ → WriteFields
 writingWith xs = record { refusal = getD xs 0 0; generation = getD xs 1 0; turned = getD xs 2 0; unerased = getD xs 3 0 }
@@ -82,6 +88,10 @@ newStepWith xs =
 pub unique-read : (s : Shape) (cells : List ℕ) (r r′ : ReadFields) →
     readFieldsOf r ≡ readFields (readReply s cells) → readFieldsOf r′ ≡ readFields (readReply s cells) → r ≡ r′
 unique-read s cells r r′ p p′ = ap readingWith (p ∙ sym p′)
+
+pub unique-judge : (s : Shape) (before after : List ℕ) (r r′ : JudgeFields) →
+    judgeFieldsOf r ≡ judgeFields (judgeReply s before after) → judgeFieldsOf r′ ≡ judgeFields (judgeReply s before after) → r ≡ r′
+unique-judge s before after r r′ p p′ = ap judgingWith (p ∙ sym p′)
 
 pub unique-write : (s : Shape) (x : ℕ) (cells after after′ : List ℕ) (r r′ : WriteFields) →
     writeFieldsOf r ≡ writeFields (writeReply s x cells) → after ≡ writeLeaves s x cells →

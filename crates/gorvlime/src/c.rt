@@ -7,9 +7,11 @@ ghost use mathlib.Core.Path.{_≡_};
 ghost use mathlib.Core.List.{_∷_, _++_};
 ghost use Rattle.code.specs.Calls.{filled, readFields, writeFields, layoutFields, layoutReply, readReply, writeReply, writeLeaves};
 ghost use Rattle.code.specs.Many.{manyReply, manyLeaves};
+ghost use Rattle.code.specs.JudgeCall.{judgeReply, judgeFields};
 ghost use Rattle.reading.specs.Answers.{readFieldsOf};
 ghost use Rattle.writing.specs.Answers.{writeFieldsOf};
 ghost use Rattle.many.specs.Answers.{manyOf};
+ghost use Rattle.judging.specs.Answers.{judgeFieldsOf};
 ghost use Prim.Native.Nat.{_^_, _<_};
 ghost use lib.ListN.{take, drop, replicate};
 ghost use Rattle.code.specs.declared.Kind.the-variants.{Old, New};
@@ -74,6 +76,13 @@ fn flat_made(a: storing::Made) -> MadeAnswer
             length: 0,
         },
     }
+}
+
+#[no_mangle]
+pub extern "C" fn gorvlime_judge(s: Shape, before: &[u8], after: &[u8]) -> judging::JudgeFields
+    ensures { λ r. ⌜ judgeFieldsOf r ≡ judgeFields (judgeReply s (now (before .entry)) (now (after .entry))) ⌝ }
+{
+    judging::flat(crate::judge(s, before, after))
 }
 
 #[no_mangle]

@@ -6,6 +6,7 @@ use code::Shape;
 use dump::Opened;
 use dump::Step;
 use dump::listed::ListedShape;
+use judging::Judged;
 use layout::Layout;
 use many::Many;
 use moves::Moved;
@@ -18,6 +19,7 @@ ghost use mathlib.Core.List.{_∷_};
 ghost use lib.ListN.{take, drop};
 ghost use Rattle.code.specs.Calls.{filled, layoutFields, layoutReply, readReply, writeReply, writeLeaves};
 ghost use Rattle.code.specs.Many.{manyReply, manyLeaves};
+ghost use Rattle.code.specs.JudgeCall.{judgeReply};
 ghost use Rattle.code.specs.declared.Kind.the-variants.{Old, New};
 ghost use Rattle.code.specs.Export.{oldExport, newExport, exportReply, exportLeaves};
 ghost use Rattle.code.specs.Dump.{openReply, stepReply, walkReply, walkLeaves};
@@ -26,6 +28,7 @@ ghost use Rattle.code.specs.Hex.{hexExportReply, hexExportLeaves, hexImportRepl
 ghost use Rattle.reading.specs.Answers.{readingOf};
 ghost use Rattle.writing.specs.Answers.{writingOf};
 ghost use Rattle.many.specs.Answers.{manyOf};
+ghost use Rattle.judging.specs.Answers.{judgedOf};
 ghost use Rattle.dump.specs.Answers.{openedReply, stepOf};
 ghost use Rattle.dump.specs.Listed.{listedNumbersOf};
 ghost use Rattle.walking.specs.Answers.{walkedOf};
@@ -60,6 +63,13 @@ pub fn write_many(s: Shape, cells: &mut [u8], numbers: &[u64]) -> Many
     ensures { λ r. ⌜ now (cells .exit) ≡ manyLeaves s (now (numbers .entry)) (now (cells .entry)) ⌝ }
 {
     many::write_many(s, cells, numbers)
+}
+
+// Whether some choice of spare groups makes the cells after a write a right one of some number on the cells before it.
+pub fn judge(s: Shape, before: &[u8], after: &[u8]) -> Judged
+    ensures { λ r. ⌜ judgedOf r ≡ judgeReply s (now (before .entry)) (now (after .entry)) ⌝ }
+{
+    judging::judge(s, before, after)
 }
 
 // The record of a field for an old dump, at the front of the output.

@@ -1,6 +1,7 @@
 // The numbers of an answer: 0 and its values, or a refusal and what it carries.
 use code::refusals;
 use dump::Halt;
+use judging::Judged;
 use reading::Reading;
 use reading::Refusal;
 use storing::Made;
@@ -77,6 +78,17 @@ pub fn of_writing(answer: Writing) -> Reply
     match answer {
         Writing::Written { generation, turned } => reply_three(0, generation, turned),
         Writing::Refused(refusal) => of_refusal(refusal),
+    }
+}
+
+// Yes and its number, or a 0 alone for no.
+pub fn of_judged(answer: Judged) -> Reply
+    ensures { λ r. ⌜ r .count ≤ replyMost ⌝ }
+{
+    match answer {
+        Judged::Right(number) => reply_three(0, 1, number),
+        Judged::Wrong => reply_two(0, 0),
+        Judged::Refused(refusal) => of_refusal(refusal),
     }
 }
 

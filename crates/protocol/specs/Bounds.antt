@@ -36,6 +36,8 @@ pub record Bare (c : Call) (place : ℕ) : Type 0 where
   pub limited : c .room ≡ 0
   pub start : c .start ≡ place
   pub end : c .end ≡ place
+  pub first : c .first ≡ 0
+  pub second : c .second ≡ 0
 
 -- a call and its bytes stand within so many bytes that it was read from, and the output that it asks for is within the limit
 pub record Within (c : Call) (count : ℕ) : Type 0 where
@@ -43,6 +45,8 @@ pub record Within (c : Call) (count : ℕ) : Type 0 where
   pub inside : c .end ≤ count
   pub limited : c .room ≤ outputMost
   pub few : c .listed ≤ listedMost
+  pub parted : c .first ≤ c .second
+  pub held : c .start + c .second ≤ c .end
 
 -- the next call asks for no more than the limits, and its bytes and what stands behind it are within a buffer of so many bytes
 pub record NextIn (n : Next) (count : ℕ) : Type 0 where
@@ -50,4 +54,6 @@ pub record NextIn (n : Next) (count : ℕ) : Type 0 where
   pub inside : n .end ≤ count
   pub limited : n .call .room ≤ outputMost
   pub few : n .call .listed ≤ listedMost
+  pub parted : n .call .first ≤ n .call .second
+  pub held : n .start + n .call .second ≤ n .end
   pub behind : InBuffer (n .rest) count

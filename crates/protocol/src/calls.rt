@@ -34,6 +34,7 @@ pub enum OnField {
     Read,
     Write,
     WriteMany,
+    Judge,
 }
 
 // The calls that are lent an output.
@@ -61,7 +62,8 @@ struct Span {
 }
 
 // A call, 0 for what it lacks: the serial and the layout's number of a record; the shape; the number behind it, which is the range of a record that has no more
-// of a shape than m and t; how many numbers it lists; the length of the output that it asks for; its bytes from `start` to `end`, and there its end.
+// of a shape than m and t; how many numbers it lists; the length of the output that it asks for; its bytes from `start` to `end`, and there its end. Where it
+// has bytes twice, the first of these are as many as `first`, and the second begin at `second`.
 pub struct Call {
     pub operation: Operation,
     pub serial: u64,
@@ -72,6 +74,8 @@ pub struct Call {
     pub room: usize,
     pub start: usize,
     pub end: usize,
+    pub first: usize,
+    pub second: usize,
 }
 
 // A call as far as it is read, and the last number of it.
@@ -84,6 +88,12 @@ struct Numbered {
 struct Spanned {
     call: Call,
     span: Span,
+}
+
+fn less(a: u64, b: u64) -> u64
+    ensures { λ r. ⌜ r ≤ a ⌝ }
+{
+    if a < b { 0 } else { a - b }
 }
 
 fn lesser(a: usize, b: usize) -> usize
@@ -136,6 +146,8 @@ fn begin(operation: Operation, front: Front, end: usize) -> Call
         room: 0,
         start: end,
         end,
+        first: 0,
+        second: 0,
     }
 }
 
@@ -186,6 +198,8 @@ fn read_more(s: &[u8], call: Call) -> Numbered
     let mut next = call;
     next.start = at + 8;
     next.end = at + 8;
+    next.first = 0;
+    next.second = 0;
     Numbered {
         call: next,
         number: number_at(s, at),
@@ -227,6 +241,8 @@ fn read_span(s: &[u8], call: Call, most: u64) -> Spanned
     }
     next.start = from + 8 * count;
     next.end = from + 8 * count;
+    next.first = 0;
+    next.second = 0;
     let span = Span { from, count };
     Spanned { call: next, span }
 }
@@ -305,14 +321,12 @@ fn read_room(s: &[u8], code: u8, call: Call) -> Call
     next
 }
 
-fn read_bytes(s: &[u8], code: u8, call: Call) -> Call
+// The call with a count, which has a limit, and so many bytes behind it.
+fn read_string(s: &[u8], call: Call, most: u64) -> Call
     requires { ⌜ Within call (length (now s)) ⌝ }
     ensures { λ r. ⌜ Within r (length (now (s .entry))) ⌝ }
 {
-    if !parts::has_bytes(code) {
-        return call;
-    }
-    let read = read_limited(s, call, BYTES_MOST);
+    let read = read_limited(s, call, most);
     let mut next = read.call;
     let start = next.end;
     let count = read.number as usize;
@@ -321,6 +335,38 @@ fn read_bytes(s: &[u8], code: u8, call: Call) -> Call
     }
     next.start = start;
     next.end = start + count;
+    next.first = 0;
+    next.second = 0;
+    next
+}
+
+fn read_bytes(s: &[u8], code: u8, call: Call) -> Call
+    requires { ⌜ Within call (length (now s)) ⌝ }
+    ensures { λ r. ⌜ Within r (length (now (s .entry))) ⌝ }
+{
+    if !parts::has_bytes(code) {
+        return call;
+    }
+    read_string(s, call, BYTES_MOST)
+}
+
+// The call with bytes once more: its bytes are then all from the first of these on, the count of the second among them.
+fn read_more_bytes(s: &[u8], code: u8, call: Call) -> Call
+    requires { ⌜ Within call (length (now s)) ⌝ }
+    ensures { λ r. ⌜ Within r (length (now (s .entry))) ⌝ }
+{
+    if !parts::has_bytes_twice(code) {
+        return call;
+    }
+    let start = call.start;
+    let first = call.end - start;
+    let mut next = read_string(s, call, less(BYTES_MOST, first as u64));
+    if next.start < start + first {
+        return next;
+    }
+    next.second = next.start - start;
+    next.first = first;
+    next.start = start;
     next
 }
 
@@ -341,5 +387,6 @@ pub fn read_call(s: &[u8], numbers: &mut [u64]) -> Call
     let followed = read_behind(s, code, shaped);
     let listed = read_listed(s, code, followed, numbers);
     let lent = read_room(s, code, listed);
-    read_bytes(s, code, lent)
+    let held = read_bytes(s, code, lent);
+    read_more_bytes(s, code, held)
 }

@@ -1,5 +1,5 @@
 // What stands in a call, by its first byte: numbers in front, the last of which is the t of a shape, and then those of these parts that it has, in this order:
-// the ranges of the shape, a number, a list of numbers, the length of an output, bytes.
+// the ranges of the shape, a number, a list of numbers, the length of an output, bytes, bytes once more.
 use crate::calls::Broken;
 use crate::calls::OnField;
 use crate::calls::Operation;
@@ -22,13 +22,14 @@ pub fn operation_of(code: u8) -> Operation {
         11 => Operation::Store(Stored::ExportLayout),
         12 => Operation::Store(Stored::ExportRecord),
         13 => Operation::OnField(OnField::WriteMany),
+        14 => Operation::OnField(OnField::Judge),
         _ => Operation::Broken(Broken::NoSuchCall),
     }
 }
 
 pub fn is_known(code: u8) -> bool {
     match code {
-        1..=13 => true,
+        1..=14 => true,
         _ => false,
     }
 }
@@ -112,4 +113,8 @@ pub fn has_bytes(code: u8) -> bool {
         1 | 11 => false,
         _ => true,
     }
+}
+
+pub fn has_bytes_twice(code: u8) -> bool {
+    code == 14
 }

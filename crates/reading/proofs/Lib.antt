@@ -1,5 +1,5 @@
 pub mod Laws
-pub mod Judging
+pub mod Looking
 pub mod Unique
 pub mod Demand
 pub mod Refusals

@@ -55,8 +55,8 @@ answerOf form t (Field.miscounted i u) = 15 ∷ i ∷ u ∷ []
 answerOf form t (Field.beyond i) = 16 ∷ i ∷ []
 
 -- what groups read as by the layout of a shape, and at a place of it
-abbrev pub judgedIn : Shape → List ℕ → ℕ → Field.Reading
-judgedIn s gs i = Field.judged (codeOf s) gs i
+abbrev pub readAtIn : Shape → List ℕ → ℕ → Field.Reading
+readAtIn s gs i = Field.readAt (codeOf s) gs i
 
 abbrev pub readIn : Shape → List ℕ → Field.Reading
 readIn s gs = Field.read (codeOf s) gs

@@ -98,7 +98,7 @@ fn mark_places(h: &[u64; 16], m: u64, n: usize, i: usize, marks: &mut [u64; 16])
 }
 
 // What the field's groups in words read as, of which is seen how many are zero and which are not erased.
-fn judge(
+fn read_groups(
     h: &[u64; 16],
     f: Outline,
     v: &[u64; 16],
@@ -194,7 +194,7 @@ pub fn look_at(
     let m = f.m as usize;
     let n = cells::load(cells, shapes::order(f), m, h[0] as usize, words);
     let seen = words::see(words, n, m, marks);
-    let found = judge(h, f, v, words, n, marks, seen);
+    let found = read_groups(h, f, v, words, n, marks, seen);
     Look {
         n,
         zeros: seen.zeros,

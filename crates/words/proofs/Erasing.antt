@@ -7,7 +7,8 @@ use native.Mathlib.Decide.{decLt}
 use native.Mathlib.Nat.{mul-suc, pow-suc, add-suc, add-zero, mul-comm, zero-mul, zero-add, sub-zero, lt-of-lt-of-le}
 use lib.ListN.{length, getD, set, length-set}
 use borrow.Author.Tests.{ne-eqb}
-use Rattle.code.specs.Field.{zeros, erase, lay}
+use Rattle.code.specs.Field.{zeros, eraseBy, leftmost, lay}
+use Rattle.code.proofs.Groups.{erase}
 use Rattle.code.proofs.Groups.{erase-zeros, erase-length, lay-length, Wiped, erase-wiped}
 use Rattle.words.specs.Marks.{marksOf, zeroGroup, topOf, stripped, lows, nonzeroGroup, wordLows, wordMarks, ZeroMarked, Erased}
 use Rattle.words.proofs.Masks.{marks-lt, groups-long, marks-not}
@@ -32,7 +33,7 @@ unfolding marksOf
 marks-blank m xs = omega arith
 
 pub marks-kept : (m e : ℕ) (xs : List ℕ) → 0 < e → marksOf m zeroGroup (erase e 0 xs) ≡ marksOf m zeroGroup xs
-unfolding erase
+unfolding erase eraseBy leftmost
 marks-kept m e [] pos = refl
 marks-kept m e (zero ∷ xs) pos = rw (marks-blank m (erase e 0 xs), marks-blank m xs, erase-length e 0 xs, marks-kept m e xs pos)
 marks-kept m e (suc x ∷ xs) pos = marks-mark m e (erase e 0 xs) pos ∙ marks-kept m e xs pos ∙ sym (marks-mark m (suc x) xs (omega arith))
@@ -57,7 +58,7 @@ record Topped (m e : ℕ) (gs : List ℕ) (i k : ℕ) : Type 0 where
 
 module _ (m e : ℕ) (pm : 0 < m) (pe : 0 < e) where
   topped-here : (gs : List ℕ) → Topped m e (0 ∷ gs) 0 (m * length gs)
-  unfolding erase lay packed
+  unfolding erase eraseBy leftmost lay packed
   topped-here gs =
       let xs = erase e 0 gs in
       let n : length xs ≡ length gs = erase-length e 0 gs in
@@ -89,7 +90,7 @@ module _ (m e : ℕ) (pm : 0 < m) (pe : 0 < e) where
   }
 
   topped : (gs : List ℕ) (i : ℕ) → i < zeros gs → (k : ℕ) × Topped m e gs i k
-  unfolding zeros erase lay
+  unfolding zeros erase eraseBy leftmost lay
   topped [] i h = absurd (omega arith)
   topped (suc g ∷ gs) i h =
       let t = topped gs i h in
@@ -202,7 +203,7 @@ module _ (m : ℕ) (hm : 2 ≤ m) (lm : m ≤ 4) where
       rw a (wipes-at spare w)
 
 pub erase-append : (e s : ℕ) (xs ys : List ℕ) → erase e s (xs ++ ys) ≡ erase e s xs ++ erase e (s - zeros xs) ys
-unfolding erase zeros
+unfolding erase eraseBy leftmost zeros
 erase-append e s [] ys = rw sub-zero
 erase-append e s (suc x ∷ xs) ys = ap (λ (l : List ℕ). e ∷ l) (erase-append e s xs ys)
 erase-append e zero (zero ∷ xs) ys =
@@ -225,7 +226,7 @@ zero-none m ws os hm lm l r =
     record { wide = hm; narrow = lm; few = omega arith; long = l; room = r; tidy = λ j h. absurd (omega arith); marked = λ j h. absurd (omega arith) }
 
 pub wiping-none : (m spare : ℕ) (ws os : List ℕ) → 2 ≤ m → m ≤ 4 → length ws ≡ 16 → length os ≡ 16 → Wiping m spare ws 0 spare ws os
-unfolding allGroups erase zeros
+unfolding allGroups erase eraseBy leftmost zeros
 wiping-none m spare ws os hm lm l r = record {
   was = l;
   spared = sym (sub-zero spare);

@@ -9,7 +9,8 @@ use lib.Count.{ones}
 use lib.Pow.{pow-mono}
 use lib.ListN.{length, getD, set, take, drop, replicate, length-append, length-replicate, length-set}
 use lib.Seq.{take-add, length-take-le, getD-set-other}
-use Rattle.code.specs.Field.{zeros, erase, lay}
+use Rattle.code.specs.Field.{zeros, lay}
+use Rattle.code.proofs.Groups.{erase}
 use Rattle.code.specs.Lists.{Upto}
 use Rattle.code.proofs.Groups.{erase-zeros, erase-length, lay-length}
 use Rattle.words.specs.Words.{allGroups, wordBytes, wordGroups, frontGroups, Tidy}

@@ -13,3 +13,4 @@ pub mod Laying
 pub mod Digits
 pub mod Patterns
 pub mod Joined
+pub mod Wiped

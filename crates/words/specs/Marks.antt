@@ -8,7 +8,8 @@ use lib.Count.{ones, leadingZeros}
 use lib.Dec.{eqb}
 use lib.ListN.{length, getD, take, drop}
 use Rattle.code.proofs.Chosen.{Chosen, patternMost, labels, values, scattered}
-use Rattle.code.specs.Field.{zeros, unerased, erase, lay}
+use Rattle.code.specs.Field.{zeros, unerased, lay}
+use Rattle.code.proofs.Groups.{erase}
 use Rattle.code.specs.Lists.{Below, Upto}
 use Rattle.words.specs.Words.{groupsOf, wordBytes, wordGroups, frontGroups, frontAt, Tidy}
 use Rattle.words.specs.declared.Seen.{Seen}

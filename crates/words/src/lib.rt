@@ -24,6 +24,7 @@ ghost use Rattle.code.proofs.Chosen.{patternMost};
 ghost use Rattle.code.proofs.Chosen as Chosen;
 ghost use Rattle.code.specs.Deal as Deal;
 ghost use Rattle.code.specs.Lists as Lists;
+ghost use Rattle.code.specs.Judge.{wipes};
 ghost use Rattle.words.specs.Words as Words;
 ghost use Rattle.words.specs.Marks as Marks;
 
@@ -332,4 +333,20 @@ pub fn lay(
         next = right;
         i += 1;
     }
+}
+
+// Whether every group that is not zero in the first n words of one field is all ones in those of another.
+pub fn is_wiped(before: &[u64; 16], after: &[u64; 16], n: usize, m: usize) -> bool
+    requires { ⌜ (2 ≤ m) × (m ≤ 4) × (n ≤ 16) × (length (now before) ≡ 16) × (length (now after) ≡ 16) ⌝ }
+    ensures { λ r. ⌜ r ≡ wipes (2 ^ m - 1) (Words.frontGroups m n (now (before .entry))) (Words.frontGroups m n (now (after .entry))) ⌝ }
+{
+    let low = low_bits(m);
+    let mut all = true;
+    let mut i = 0;
+    while i < n {
+        let both = nonzero(m, low, before[i]) & open_marks(m, low, after[i]);
+        all = all & (both == 0);
+        i += 1;
+    }
+    all
 }

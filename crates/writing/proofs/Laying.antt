@@ -16,6 +16,7 @@ use Rattle.code.proofs.Chosen.{patternMost}
 use Rattle.code.specs.Code.{dealt, generationAt, pattern, room}
 use Rattle.counting.specs.Cap.{cap}
 use Rattle.code.specs.Field as Field
+use Rattle.code.proofs.Groups.{erase}
 use Rattle.code.proofs.Deal.{deal-is, plainly-is}
 use Rattle.code.proofs.Groups.{upto-grows, erase-zeros, erase-length, zeros-padded, erase-padded, lay-padded, lay-length}
 use Rattle.code.proofs.Field as Code
@@ -87,18 +88,18 @@ module _ {f : Held} {g : Generation} {x : ℕ} {words : List ℕ} (T : Takes f g
 
   module _ {erased marks : List ℕ} (E : Erased (witsOf f) (f .n) (f .zeros - g .places) words erased marks) where
     abbrev cleared : List ℕ
-    cleared = Field.erase (2 ^ witsOf f - 1) (f .zeros - g .places) (groupsHeld f words)
+    cleared = erase (2 ^ witsOf f - 1) (f .zeros - g .places) (groupsHeld f words)
 
     erased-padded : frontGroups (witsOf f) (f .n) erased ≡ cleared ++ replicate behind (2 ^ witsOf f - 1)
     unfolding behind
     erased-padded =
-        E .made ∙ ap (Field.erase (2 ^ witsOf f - 1) (f .zeros - g .places)) (T .holds .padded)
+        E .made ∙ ap (erase (2 ^ witsOf f - 1) (f .zeros - g .places)) (T .holds .padded)
         ∙ rw full (erase-padded (2 ^ witsOf f - 2) (f .zeros - g .places) (wordGroups (witsOf f) * f .n - f .groups) (groupsHeld f words))
 
     pub places-are : g .places ≡ Field.zeros (frontGroups (witsOf f) (f .n) erased)
     places-are =
         let e : Field.zeros (frontGroups (witsOf f) (f .n) erased) ≡ Field.zeros cleared =
-        ap Field.zeros erased-padded ∙ rw full (zeros-padded (2 ^ witsOf f - 2) behind (Field.erase (suc (2 ^ witsOf f - 2)) (f .zeros - g .places) (groupsHeld f words))) in
+        ap Field.zeros erased-padded ∙ rw full (zeros-padded (2 ^ witsOf f - 2) behind (erase (suc (2 ^ witsOf f - 2)) (f .zeros - g .places) (groupsHeld f words))) in
         omega (arith, e, erase-zeros (2 ^ witsOf f - 1) (f .zeros - g .places) (groupsHeld f words) (omega (arith, full)), T .none, T .enough)
 
     -- what is laid into them makes the groups that the write leaves
@@ -109,7 +110,7 @@ module _ {f : Held} {g : Generation} {x : ℕ} {words : List ℕ} (T : Takes f g
         let pad = replicate behind (2 ^ witsOf f - 1) in
         let made : frontGroups (witsOf f) (f .n) after ≡ Field.lay cleared ps ++ pad =
         L .made ∙ ap (λ l. Field.lay l ps) erased-padded
-        ∙ rw full (lay-padded (2 ^ witsOf f - 2) behind (Field.erase (suc (2 ^ witsOf f - 2)) (f .zeros - g .places) (groupsHeld f words)) ps) in
+        ∙ rw full (lay-padded (2 ^ witsOf f - 2) behind (erase (suc (2 ^ witsOf f - 2)) (f .zeros - g .places) (groupsHeld f words)) ps) in
         let long = lay-length cleared ps ∙ erase-length (2 ^ witsOf f - 1) (f .zeros - g .places) (groupsHeld f words) ∙ T .holds .many in
         let same : Field.lay cleared ps ≡ laidBy (witsOf f) g x (groupsHeld f words) = rw (T .none) in
         record { long = L .long; many = ap length (sym same) ∙ long; behind = pad; made = made ∙ ap (λ l. l ++ pad) same }

@@ -31,7 +31,7 @@ use Rattle.reading.specs.declared.Refusal.{Refusal}
 use Rattle.reading.specs.declared.Refusal.the-variants.{Plain, Miscounted, Beyond}
 use Rattle.writing.specs.declared.Held.{Held}
 use Rattle.writing.specs.Answers.{aimAt, afterIn, laidBy, witsOf, Due, Takes}
-use Rattle.reading.proofs.Judging.{sound-width, loadable, width}
+use Rattle.reading.proofs.Looking.{sound-width, loadable, width}
 use Rattle.writing.proofs.Laying.{takes, laid-after}
 
 -- a reply and the cells at exit, as a call's promise has them

@@ -14,6 +14,7 @@ use Rattle.code.specs.Code.{pattern, room}
 use Rattle.counting.specs.Cap.{cap}
 use Rattle.code.specs.Deal.{written}
 use Rattle.code.specs.Field as Field
+use Rattle.code.proofs.Groups.{erase}
 use Rattle.words.specs.Words.{frontGroups}
 use Rattle.reading.specs.declared.Refusal.the-variants.{Plain, Miscounted, Beyond}
 use Rattle.reading.specs.Answers.{refusalOf, heldGroups, Holds}
@@ -45,7 +46,7 @@ afterIn s i x gs = Field.after (codeOf s) i x gs
 
 -- the same of a generation: what is above its places is erased, and the pattern is laid into the zero groups
 abbrev pub laidBy : ℕ → Generation → ℕ → List ℕ → List ℕ
-laidBy m g x gs = Field.lay (Field.erase (2 ^ m - 1) (Field.zeros gs - g .places) gs) (pattern (g .dealing) (g .places) x)
+laidBy m g x gs = Field.lay (erase (2 ^ m - 1) (Field.zeros gs - g .places) gs) (pattern (g .dealing) (g .places) x)
 
 -- groups that may be written at place i, z of them zero
 pub record Due (s : Shape) (i z : ℕ) (gs : List ℕ) : Type 0 where

@@ -1,7 +1,7 @@
 -- `reading::look_at` meets its contract. Assumes nothing.
 use borrow.Author.Needs.{needs}
 use denote.Ref.{now}
-use Rattle.reading.proofs.Judging.{loadable, loaded-holds, looked}
+use Rattle.reading.proofs.Looking.{loadable, loaded-holds, looked}
 use Rattle.reading.proofs.look_at.Statement.{statement}
 use Rattle.reading.proofs.look_at.Tie as tie
 
@@ -16,7 +16,7 @@ look-at-spec =
     let a = c .before .before .before .before in
     (loadable (a .pre .0 .0) _ (a .pre .0 .1) _ (c .before .before .order .ensures (now (a .args .v))), a .pre .1 .0))
     (λ c κs. search needs)
-    -- judge-requires
+    -- read-groups-requires
     (λ c κs.
     let l = c .before .before .before .before .before in
     let a = l .before .before .before .before .before in
@@ -28,5 +28,5 @@ look-at-spec =
     let l = v .before .before .before in
     let a = l .before .before .before .before .before in
     let o = l .before .before .before .order .ensures (now (a .args .v)) in
-    let J = c .judge .ensures in
+    let J = c .read-groups .ensures in
     (looked (a .pre .0 .0) _ (a .pre .0 .1) o (l .load .ensures) _ _ _ (v .see .ensures) (J .0), J .1)))

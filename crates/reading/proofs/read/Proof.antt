@@ -3,7 +3,7 @@ use mathlib.Core.Path.{sym, _∙_}
 use native.Mathlib.Omega.{arith}
 use borrow.Author.Needs.{needs}
 use Rattle.layout.proofs.Planning.{plan-granted, outline-refused}
-use Rattle.reading.proofs.Judging.{reads-refused}
+use Rattle.reading.proofs.Looking.{reads-refused}
 use Rattle.reading.proofs.read.Statement.{statement}
 use Rattle.reading.proofs.read.Tie as tie
 

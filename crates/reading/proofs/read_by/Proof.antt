@@ -1,7 +1,7 @@
 -- `reading::read_by` meets its contract. Assumes nothing.
 use borrow.Author.Needs.{needs}
 use Rattle.layout.proofs.Planning.{plan-granted}
-use Rattle.reading.proofs.Judging.{reads-refused}
+use Rattle.reading.proofs.Looking.{reads-refused}
 use Rattle.reading.proofs.read_by.Statement.{statement}
 use Rattle.reading.proofs.read_by.Tie as tie
 

@@ -5,7 +5,7 @@ use borrow.Author.Tests.{not-false}
 use denote.Ref.{now}
 use Rattle.shapes.specs.Outlines.{outlined}
 use Rattle.reading.specs.Answers.{SoundCells}
-use Rattle.reading.proofs.Judging.{sound-width, reads-3, reads-as}
+use Rattle.reading.proofs.Looking.{sound-width, reads-3, reads-as}
 use Rattle.reading.proofs.read_granted.Statement.{statement}
 use Rattle.reading.proofs.read_granted.Tie as tie
 

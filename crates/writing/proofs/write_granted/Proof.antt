@@ -6,7 +6,7 @@ use denote.Ref.{now}
 use Rattle.shapes.specs.Outlines.{outlined}
 use Rattle.code.specs.Calls.{overRange}
 use Rattle.reading.specs.Answers.{SoundCells}
-use Rattle.reading.proofs.Judging.{sound-width}
+use Rattle.reading.proofs.Looking.{sound-width}
 use Rattle.writing.proofs.Rewriting.{writes-3, writes-6}
 use Rattle.writing.proofs.write_granted.Statement.{statement}
 use Rattle.writing.proofs.write_granted.Tie as tie

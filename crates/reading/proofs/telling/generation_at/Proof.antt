@@ -3,7 +3,7 @@ use native.Mathlib.Omega.{arith}
 use borrow.Author.Needs.{needs}
 use denote.Ref.{now}
 use Rattle.reading.proofs.Laws.{none-behind}
-use Rattle.reading.proofs.Judging.{generation-made}
+use Rattle.reading.proofs.Looking.{generation-made}
 use Rattle.reading.proofs.telling.generation_at.Statement.{statement}
 use Rattle.reading.proofs.telling.generation_at.Tie as tie
 

@@ -1,7 +1,7 @@
 -- `reading::telling::tell` meets its contract. Assumes nothing.
 use mathlib.Core.Path.{refl}
 use borrow.Author.Needs.{needs}
-use Rattle.reading.proofs.Judging.{digits-few, last-told, pattern-few, before-told}
+use Rattle.reading.proofs.Looking.{digits-few, last-told, pattern-few, before-told}
 use Rattle.reading.proofs.telling.tell.Statement.{statement}
 use Rattle.reading.proofs.telling.tell.Tie as tie
 

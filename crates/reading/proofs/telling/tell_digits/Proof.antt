@@ -1,6 +1,6 @@
 -- `reading::telling::tell_digits` meets its contract. Assumes nothing.
 use borrow.Author.Needs.{needs}
-use Rattle.reading.proofs.Judging.{digits-told}
+use Rattle.reading.proofs.Looking.{digits-told}
 use Rattle.reading.proofs.telling.tell_digits.Statement.{statement}
 use Rattle.reading.proofs.telling.tell_digits.Tie as tie
 

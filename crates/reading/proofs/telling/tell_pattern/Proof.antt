@@ -1,7 +1,7 @@
 -- `reading::telling::tell_pattern` meets its contract. Assumes nothing.
 use native.Mathlib.Omega.{arith}
 use borrow.Author.Needs.{needs}
-use Rattle.reading.proofs.Judging.{pattern-told, gathered-few}
+use Rattle.reading.proofs.Looking.{pattern-told, gathered-few}
 use Rattle.reading.proofs.telling.tell_pattern.Statement.{statement}
 use Rattle.reading.proofs.telling.tell_pattern.Tie as tie
 

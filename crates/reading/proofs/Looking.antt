@@ -29,7 +29,7 @@ use Rattle.code.proofs.Deal.{written-le}
 use Rattle.code.proofs.Places.{Dealable, dealt-dealable}
 use Rattle.code.proofs.Chosen.{rank-chosen, digits-chosen}
 use Rattle.code.proofs.Groups.{zeros-written, zeros-blank, unerased-zeros, zeros-padded, unerased-padded}
-use Rattle.code.proofs.Field.{past-next, read-blank, read-judged, judged-reads, judged-beyond, judged-miscounted}
+use Rattle.code.proofs.Field.{past-next, read-blank, read-at-place, read-at-reads, read-at-beyond, read-at-miscounted}
 use Rattle.code.proofs.Cells.{groups-length}
 use Rattle.code.proofs.LayoutCall.{range-within, counts-near, first-form}
 use Rattle.code.proofs.ReadCall.{read-no-layout, read-unsound, read-none, read-miscounted, read-beyond, read-found}
@@ -41,7 +41,7 @@ use Rattle.words.proofs.Joined.{seen-pickable, front-pickable}
 use Rattle.cells.specs.Cells.{Loadable, Loaded}
 use Rattle.layout.specs.Plan.{Granted}
 use Rattle.layout.proofs.Planning.{plan-refused}
-use Rattle.reading.specs.Answers.{answerOf, judgedIn, readIn, SoundCells, fieldGroups, Holds, Looked, Close, Ranged, Tellable}
+use Rattle.reading.specs.Answers.{answerOf, readAtIn, readIn, SoundCells, fieldGroups, Holds, Looked, Close, Ranged, Tellable}
 
 -- The number that places tell, from their labels and values, and from their digits.
 pub pattern-told : (b fewest s : ℕ) (xs at less : List ℕ) (k r : ℕ) → Gathered xs at less k → s ≡ length xs →
@@ -82,13 +82,13 @@ pub generation-made : {s : Shape} {h : List ℕ} → Granted s h → (i e first 
     _≡_ {A = Generation} (record { places = getD h i 0; next = next; dealing = d; range = v }) (generationAt (codeOf s) i)
 generation-made G i e first next v d qe qf qn qd qv = rw (qd, qe, qf, qn, qv, G .each i, G .each (suc i))
 
--- What is judged at a place whose marked groups are its places.
+-- What is read at a place whose marked groups are its places.
 module _ {s : Shape} {h : List ℕ} (G : Granted s h) (i : ℕ) (l : i < s .t) (xs : List ℕ) (many : length xs ≡ generationAt (codeOf s) i .places) where
-  pub judged-is : (g : Generation) (x : ℕ) (r : Field.Reading) → g ≡ generationAt (codeOf s) i → Close (told (g .dealing) xs) x → Ranged i (g .range) x r →
-      (gs : List ℕ) → Field.carriers (2 ^ s .m - 1) i gs ≡ xs → r ≡ judgedIn s gs i
-  judged-is g x r o C R gs c = elim (le-or-lt v x) [
-    | inl beyond ↦ RR .outside beyond ∙ sym (judged-beyond (codeOf s) gs xs i _ c many refl (far beyond))
-    | inr inside ↦ RR .inside inside ∙ sym (judged-reads (codeOf s) gs xs i x c many (sym (CC .exact (omega (arith, high)))) inside)
+  pub read-at-is : (g : Generation) (x : ℕ) (r : Field.Reading) → g ≡ generationAt (codeOf s) i → Close (told (g .dealing) xs) x → Ranged i (g .range) x r →
+      (gs : List ℕ) → Field.carriers (2 ^ s .m - 1) i gs ≡ xs → r ≡ readAtIn s gs i
+  read-at-is g x r o C R gs c = elim (le-or-lt v x) [
+    | inl beyond ↦ RR .outside beyond ∙ sym (read-at-beyond (codeOf s) gs xs i _ c many refl (far beyond))
+    | inr inside ↦ RR .inside inside ∙ sym (read-at-reads (codeOf s) gs xs i x c many (sym (CC .exact (omega (arith, high)))) inside)
   ]
     where
       v : ℕ
@@ -165,9 +165,9 @@ module _ {s : Shape} {h : List ℕ} (G : Granted s h) {n : ℕ} {words : List �
       past-here : Field.past (countsOf s) (Field.zeros (fieldGroups s n words)) ≡ i
       past-here = rw (← same-zeros, ← W .blank, ← G .list) (sym p)
 
-      pub reads-at : (r : Field.Reading) → r ≡ judgedIn s (fieldGroups s n words) i → r ≡ reading
+      pub reads-at : (r : Field.Reading) → r ≡ readAtIn s (fieldGroups s n words) i → r ≡ reading
       reads-at r q =
-          q ∙ sym (read-judged (codeOf s) (fieldGroups s n words) i (used-here d) past-here)
+          q ∙ sym (read-at-place (codeOf s) (fieldGroups s n words) i (used-here d) past-here)
 
       -- the zero groups are at least as many as the next generation has places
       zeros-left : getD (countsOf s) (suc i) 0 ≤ Field.zeros (fieldGroups s n words)
@@ -188,7 +188,7 @@ module _ {s : Shape} {h : List ℕ} (G : Granted s h) {n : ℕ} {words : List �
         reads-miscounted wrong =
             reads-at (Field.miscounted (i + 1) (seen .unerased))
             (rw (add-one i, many)
-            (sym (judged-miscounted (codeOf s) (fieldGroups s n words) (frontAt (s .m) n marks words) i carried
+            (sym (read-at-miscounted (codeOf s) (fieldGroups s n words) (frontAt (s .m) n marks words) i carried
             (λ q. wrong (many ∙ q ∙ sym (G .each i))))))
 
         later-placed : seen .unerased ≡ getD h i 0 → PlacesMarked s n i words marks

@@ -1,12 +1,12 @@
--- `reading::judge` meets its contract. Assumes nothing.
+-- `reading::read_groups` meets its contract. Assumes nothing.
 use native.Mathlib.Omega.{arith}
 use borrow.Author.Needs.{needs}
 use denote.Ref.{now}
 use mathlib.Core.List.{[]}
 use Rattle.shapes.specs.Outlines.{outlined}
-use Rattle.reading.proofs.Judging.{past-asks, width, reads-blank, reads-at, reads-miscounted, PlacesMarked, placed, tellable, judged-is}
-use Rattle.reading.proofs.judge.Statement.{statement}
-use Rattle.reading.proofs.judge.Tie as tie
+use Rattle.reading.proofs.Looking.{past-asks, width, reads-blank, reads-at, reads-miscounted, PlacesMarked, placed, tellable, read-at-is}
+use Rattle.reading.proofs.read_groups.Statement.{statement}
+use Rattle.reading.proofs.read_groups.Tie as tie
 
 -- the places of the generation are marked where its number is told
 marked : (c : tie.After-generation-at) →
@@ -21,8 +21,8 @@ marked c =
     let M = c .before .mark-places .ensures .0 in
     placed (a .pre .0) (a .pre .1) (a .pre .2) (p .before .if1 .left) _ (p .past .ensures .0) right (M .0) (M .1)
 
-pub judge-spec : {M : Type 1} → statement M
-judge-spec =
+pub read-groups-spec : {M : Type 1} → statement M
+read-groups-spec =
     tie.close
     (tie.spec
     (λ c. search needs)
@@ -56,5 +56,5 @@ judge-spec =
     let p = f .before .before .before .before .before in
     let a = p .before .before .before .before in
     let P = marked f in
-    let J = judged-is (a .pre .0) _ (p .past .ensures .1) _ (P .many) _ _ _ (f .generation-at .ensures) (c .before .tell .ensures) (c .ranged .ensures) _ (P .held) in
+    let J = read-at-is (a .pre .0) _ (p .past .ensures .1) _ (P .many) _ _ _ (f .generation-at .ensures) (c .before .tell .ensures) (c .ranged .ensures) _ (P .held) in
     (reads-at (a .pre .0) (a .pre .1) (a .pre .2) (p .before .if1 .left) _ (p .past .ensures .0) _ J, f .before .mark-places .ensures .1)))
