@@ -25,11 +25,20 @@ pub struct Written {
 pub fn read(shape: &Shape, cells: &[u8], layouts: &mut Layouts) -> Result<Reading, Refusal> {
     let layout = layouts.grant(shape, GROUPS_OFFERED)?;
     let groups = cells::groups_of(&layout, cells)?;
+    read_groups(&layout, &groups, &mut layouts.counting)
+}
+
+/// Refusals in the order 11, 15, 16.
+pub fn read_groups(
+    layout: &Layout,
+    groups: &[u64],
+    counting: &mut Counting,
+) -> Result<Reading, Refusal> {
     // "Reading blank form 1 cells gives 11, after 3", and those of form 2.
-    if is_blank(&groups) && !layout.blank_is_a_pattern() {
+    if is_blank(groups) && !layout.blank_is_a_pattern() {
         return Err(Refusal::Blank);
     }
-    reading_of(&layout, &groups, &mut layouts.counting)
+    reading_of(layout, groups, counting)
 }
 
 /// Refusals in the order 1, 2, 3, 6, 15, 16, 5, and in form 2, where "6 is tested after
@@ -69,21 +78,29 @@ fn refuse_beyond(range: u64, number: u64) -> Result<(), Refusal> {
     }
 }
 
-/// "All-zero cells are written at generation 1", in forms 1 and 2 too, where they have
-/// no reading. "Cells read as generation i < t are written at i + 1."
 fn generation_to_write(
     layout: &Layout,
     groups: &[u64],
     counting: &mut Counting,
 ) -> Result<usize, Refusal> {
-    if is_blank(groups) {
-        return Ok(1);
+    match generation_due(layout, groups, counting)? {
+        due if due > layout.generations() => Err(Refusal::LastGenerationUsed),
+        due => Ok(due),
     }
-    let reading = reading_of(layout, groups, counting)?;
-    if reading.generation == layout.generations() {
-        return Err(Refusal::LastGenerationUsed);
+}
+
+/// "All-zero cells are written at generation 1", in forms 1 and 2 too, where they have
+/// no reading. "Cells read as generation i < t are written at i + 1." For spent cells it
+/// is t + 1, which there isn't. Refusals in the order 15, 16.
+pub fn generation_due(
+    layout: &Layout,
+    groups: &[u64],
+    counting: &mut Counting,
+) -> Result<usize, Refusal> {
+    match is_blank(groups) {
+        true => Ok(1),
+        false => Ok(reading_of(layout, groups, counting)?.generation + 1),
     }
-    Ok(reading.generation + 1)
 }
 
 fn is_blank(groups: &[u64]) -> bool {

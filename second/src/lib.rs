@@ -13,6 +13,7 @@ pub mod dealing;
 pub mod dump;
 pub mod field;
 pub mod hex;
+pub mod judging;
 pub mod layout;
 pub mod listing;
 pub mod many;

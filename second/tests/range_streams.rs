@@ -43,6 +43,7 @@ fn shape_of(call: &Call) -> Option<(&'static str, &Shape)> {
         Call::Read { shape, .. } => Some(("read", shape)),
         Call::Write { shape, .. } => Some(("write", shape)),
         Call::Many(call) => Some(("many", &call.shape)),
+        Call::Judge(call) => Some(("judge", &call.shape)),
         Call::NewDump(NewDumpCall::ExportLayout { shape, .. }) => Some(("listed", shape)),
         Call::NewDump(NewDumpCall::ExportRecord { exported, .. }) => {
             Some(("export", &exported.shape))
@@ -169,7 +170,9 @@ fn shapes_of_form_2_in_every_call() {
     let met = counted(kinds_of_shape);
     assert_met_often(&met, &KINDS_OF_ANSWERS);
     assert_met_often(&met, &KINDS_OF_SHAPES);
-    for operation in ["layout", "read", "write", "many", "listed", "export"] {
+    for operation in [
+        "layout", "read", "write", "many", "judge", "listed", "export",
+    ] {
         for order in ["equal", "falling", "rising", "up and down"] {
             assert_met_often(&met, &[&format!("{} {}", operation, order)]);
         }

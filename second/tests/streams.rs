@@ -46,12 +46,13 @@ fn calls_are_small_but_for_the_last_ones() {
 }
 
 /// The first words of every line: the operation and its refusal, and for an
-/// accepted read or write the generation too. Those of new dumps and of many numbers
-/// are held to their own tests.
+/// accepted read or write the generation too. Those of new dumps, of many numbers and of
+/// judging are held to their own tests.
 fn kinds(seed: u64) -> HashSet<String> {
     let mut layouts = Layouts::default();
     let mut kinds = HashSet::new();
-    let is_told_here = |call: &&Call| !matches!(call, Call::NewDump(_) | Call::Many(_));
+    let is_told_here =
+        |call: &&Call| !matches!(call, Call::NewDump(_) | Call::Many(_) | Call::Judge(_));
     for call in calls(seed).iter().filter(is_told_here) {
         let answer = answers::answer(call, &mut layouts);
         for line in answer.lines() {
@@ -154,6 +155,7 @@ fn shape_of(call: &Call) -> Option<OldShape> {
         Call::Layout { shape, .. } | Call::Read { shape, .. } | Call::Write { shape, .. } => shape,
         Call::Export { shape, .. } => return Some(*shape),
         Call::Many(call) => &call.shape,
+        Call::Judge(call) => &call.shape,
         Call::Walk { .. } | Call::HexExport { .. } | Call::HexImport { .. } => return None,
         Call::NewDump(_) => return None,
     };

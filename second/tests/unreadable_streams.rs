@@ -5,6 +5,7 @@ mod streams;
 
 use second::dump;
 use second::field;
+use second::judging;
 use second::layout::{Layouts, Shape};
 use second::many;
 use second::newdump;
@@ -14,7 +15,7 @@ use std::collections::HashMap;
 use std::sync::Arc;
 
 const OFTEN: usize = 10;
-const OPERATIONS: [&str; 5] = ["read", "write", "record", "new record", "stop"];
+const OPERATIONS: [&str; 6] = ["read", "write", "record", "new record", "stop", "judge"];
 
 fn calls(seed: u64) -> Arc<Vec<Call>> {
     streams::calls(seed, Limits::USUAL)
@@ -42,6 +43,11 @@ fn refused_fields(call: &Call, layouts: &mut Layouts) -> Vec<Refused> {
             let many = many::write_many(&call.shape, &call.numbers, &call.cells, layouts);
             let refusal = many.ok().and_then(|many| many.stop);
             refusal.map(|refusal| ("stop", call.shape.clone(), refusal))
+        }
+        Call::Judge(call) => {
+            let judged = judging::judge(&call.shape, &call.before, &call.after, layouts);
+            let refusal = judged.err();
+            refusal.map(|refusal| ("judge", call.shape.clone(), refusal))
         }
         Call::Walk { dump } => return refused_records(dump, layouts),
         Call::NewDump(NewDumpCall::Walk { dump }) => return refused_new_records(dump, layouts),

@@ -1,5 +1,6 @@
 //! The lines that answer a call.
 
+mod judging;
 mod many;
 mod new_dump;
 
@@ -63,6 +64,7 @@ pub fn answer(call: &Call, layouts: &mut Layouts) -> String {
         } => stored_line("unhex", *output_length, |output| hex::import(text, output)),
         Call::NewDump(call) => new_dump::answer(call, layouts),
         Call::Many(call) => many::answer(call, layouts),
+        Call::Judge(call) => judging::answer(call, layouts),
     }
 }
 

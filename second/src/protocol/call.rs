@@ -1,6 +1,6 @@
 //! The calls, their one form in a stream, and their meaning in words.
 
-use super::{ManyCall, NewDumpCall};
+use super::{JudgeCall, ManyCall, NewDumpCall};
 use crate::layout::{OldShape, Shape};
 
 #[derive(Clone, Debug, PartialEq, Eq)]
@@ -37,11 +37,11 @@ pub enum Call {
     },
     NewDump(NewDumpCall),
     Many(ManyCall),
+    Judge(JudgeCall),
 }
 
-/// A call as a stream holds it: its operation, its numbers, and its bytes if it has
-/// any.
-pub type Parts<'call> = (u8, Vec<u64>, Option<&'call [u8]>);
+/// A call as a stream holds it: its operation, its numbers, and its byte strings.
+pub type Parts<'call> = (u8, Vec<u64>, Vec<&'call [u8]>);
 
 impl Call {
     /// The call as the stream holds it; there is one such form only.
@@ -49,9 +49,9 @@ impl Call {
         let (operation, numbers, lent) = self.parts();
         let mut bytes = vec![operation];
         bytes.extend(numbers.iter().flat_map(|number| number.to_le_bytes()));
-        if let Some(lent) = lent {
-            bytes.extend((lent.len() as u64).to_le_bytes());
-            bytes.extend(lent);
+        for string in lent {
+            bytes.extend((string.len() as u64).to_le_bytes());
+            bytes.extend(string);
         }
         bytes
     }
@@ -59,9 +59,9 @@ impl Call {
     fn parts(&self) -> Parts<'_> {
         match self {
             Call::Layout { shape, offered } => {
-                (1, [&numbers_of(shape)[..], &[*offered]].concat(), None)
+                (1, [&numbers_of(shape)[..], &[*offered]].concat(), vec![])
             }
-            Call::Read { shape, cells } => (2, numbers_of(shape), Some(cells)),
+            Call::Read { shape, cells } => (2, numbers_of(shape), vec![cells]),
             Call::Write {
                 shape,
                 number,
@@ -69,7 +69,7 @@ impl Call {
             } => (
                 3,
                 [&numbers_of(shape)[..], &[*number]].concat(),
-                Some(cells),
+                vec![cells],
             ),
             Call::Export {
                 serial,
@@ -79,19 +79,20 @@ impl Call {
             } => (
                 4,
                 vec![*serial, shape.m, shape.t, shape.v, *output_length],
-                Some(cells),
+                vec![cells],
             ),
-            Call::Walk { dump } => (5, Vec::new(), Some(dump)),
+            Call::Walk { dump } => (5, Vec::new(), vec![dump]),
             Call::HexExport {
                 output_length,
                 bytes,
-            } => (6, vec![*output_length], Some(bytes)),
+            } => (6, vec![*output_length], vec![bytes]),
             Call::HexImport {
                 output_length,
                 text,
-            } => (7, vec![*output_length], Some(text)),
+            } => (7, vec![*output_length], vec![text]),
             Call::NewDump(call) => call.parts(),
             Call::Many(call) => call.parts(),
+            Call::Judge(call) => call.parts(),
         }
     }
 
@@ -133,6 +134,7 @@ impl Call {
             } => format!("HEX import {}, {}", counted(text), lent(*output_length)),
             Call::NewDump(call) => call.meaning(),
             Call::Many(call) => call.meaning(),
+            Call::Judge(call) => call.meaning(),
         }
     }
 }

@@ -27,7 +27,7 @@ impl ManyCall {
     pub fn parts(&self) -> Parts<'_> {
         let count = self.numbers.len() as u64;
         let numbers = [&numbers_of(&self.shape)[..], &[count], &self.numbers];
-        (13, numbers.concat(), Some(&self.cells))
+        (13, numbers.concat(), vec![&self.cells])
     }
 
     pub fn meaning(&self) -> String {

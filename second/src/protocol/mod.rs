@@ -4,11 +4,13 @@
 //! numbers as it likes, their count stands in front of them.
 
 mod call;
+mod judging;
 mod many;
 mod new_dump;
 
 use crate::layout::{OldShape, Shape};
 pub use call::Call;
+pub use judging::JudgeCall;
 pub use many::ManyCall;
 pub use new_dump::NewDumpCall;
 use std::io::{self, ErrorKind, Read};
@@ -16,7 +18,7 @@ use std::io::{self, ErrorKind, Read};
 /// More than a shape may have, so that such a shape can be asked for and refused.
 const MOST_RANGES: u64 = 64;
 
-/// How much a call may hold.
+/// How much a call may hold: of bytes all its strings together.
 #[derive(Clone, Copy, Debug, PartialEq, Eq)]
 pub struct Limits {
     pub bytes: u64,
@@ -137,6 +139,7 @@ fn call_after(operation: u8, stream: &mut impl Read, limits: Limits) -> Result<C
             operation, stream, limits,
         )?)),
         13 => Ok(Call::Many(many::call_after(stream, limits)?)),
+        14 => Ok(Call::Judge(judging::call_after(stream, limits)?)),
         _ => Err(Failure::Broken(Broken::NoSuchCall)),
     }
 }

@@ -71,21 +71,21 @@ fn exported(stream: &mut impl Read) -> Result<Exported, Failure> {
 impl NewDumpCall {
     pub fn parts(&self) -> Parts<'_> {
         match self {
-            NewDumpCall::Walk { dump } => (8, Vec::new(), Some(dump)),
+            NewDumpCall::Walk { dump } => (8, Vec::new(), vec![dump]),
             NewDumpCall::MoveToNew {
                 output_length,
                 dump,
-            } => (9, vec![*output_length], Some(dump)),
+            } => (9, vec![*output_length], vec![dump]),
             NewDumpCall::MoveToOld {
                 output_length,
                 dump,
-            } => (10, vec![*output_length], Some(dump)),
+            } => (10, vec![*output_length], vec![dump]),
             NewDumpCall::ExportLayout {
                 shape,
                 output_length,
             } => {
                 let numbers = [&numbers_of(shape)[..], &[*output_length]];
-                (11, numbers.concat(), None)
+                (11, numbers.concat(), vec![])
             }
             NewDumpCall::ExportRecord {
                 exported,
@@ -95,7 +95,7 @@ impl NewDumpCall {
                 let shape = numbers_of(&exported.shape);
                 let numbers = [&[exported.serial, exported.number], &shape[..]];
                 let numbers = [&numbers.concat()[..], &[*output_length]];
-                (12, numbers.concat(), Some(cells))
+                (12, numbers.concat(), vec![cells])
             }
         }
     }

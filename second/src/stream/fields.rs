@@ -167,7 +167,7 @@ impl Maker {
     }
 
     /// The first generation that may be taken, the last one, or any.
-    fn generation_to_meet(&mut self, first: usize, layout: &Layout) -> usize {
+    pub fn generation_to_meet(&mut self, first: usize, layout: &Layout) -> usize {
         let last = layout.generations();
         match self.chance.index(3) {
             0 => first,
@@ -257,7 +257,7 @@ impl Maker {
         field::with_pattern(&groups, &pattern)
     }
 
-    fn cells_with_wrong_bytes(&mut self, shape: &Shape, layout: &Layout) -> Vec<u8> {
+    pub fn cells_with_wrong_bytes(&mut self, shape: &Shape, layout: &Layout) -> Vec<u8> {
         let mut cells = self.written_cells(shape, layout);
         match self.chance.between(1, 10) {
             1..=2 => cells.push(0),

@@ -6,6 +6,7 @@ mod exact_sums;
 mod fields;
 mod hex;
 mod hex_damage;
+mod judging;
 mod many;
 mod new_dump_calls;
 mod new_dumps;
@@ -94,7 +95,7 @@ impl Maker {
     }
 
     fn make_calls(&mut self) {
-        let call = match self.chance.between(1, 265) {
+        let call = match self.chance.between(1, 313) {
             1..=16 => self.layout_call(),
             17..=42 => self.read_call(),
             43..=64 => self.write_call(),
@@ -108,6 +109,7 @@ impl Maker {
             161..=204 => self.many_call(),
             205..=208 => return self.make_calls_with_miscounted_ranges(),
             209..=211 => return self.make_writes_around_ranges(),
+            212..=259 => self.judge_call(),
             _ => self.new_dump_call(),
         };
         self.waiting.push_back(call);
