@@ -12,11 +12,12 @@
  *                                             the i-th number written is below the i-th range
  *
  * Ask gorvlime_layout once how large the field is, keep that many bytes of cells, all zeros at first, and hand them to
- * gorvlime_write and gorvlime_read; gorvlime_write_many writes many fields of one shape at once. gorvlime_export makes
- * a record of a field, records one after the other are a dump, and gorvlime_step and gorvlime_walk list a dump. A new dump
- * says each layout once, in front, and holds fields of every form: gorvlime_export_layout and gorvlime_export_record make
- * it, gorvlime_open_new, gorvlime_listed_shape, gorvlime_step_new and gorvlime_walk_new list it, gorvlime_move_to_new and
- * gorvlime_move_to_old turn one kind of dump into the other. examples/board.c shows all of the board's side on one page.
+ * gorvlime_write and gorvlime_read; gorvlime_write_many writes many fields of one shape at once. gorvlime_judge tells
+ * whether a write that a board of another make did is right. gorvlime_export makes a record of a field, records one after
+ * the other are a dump, and gorvlime_step and gorvlime_walk list a dump. A new dump says each layout once, in front, and
+ * holds fields of every form: gorvlime_export_layout and gorvlime_export_record make it, gorvlime_open_new,
+ * gorvlime_listed_shape, gorvlime_step_new and gorvlime_walk_new list it, gorvlime_move_to_new and gorvlime_move_to_old
+ * turn one kind of dump into the other. examples/board.c shows all of the board's side on one page.
  * gorvlime_hex_export and gorvlime_hex_import turn bytes into Intel HEX and back, for the bench that programs new
  * boards; examples/bench.c does so with a file.
  *
@@ -51,11 +52,14 @@
 extern "C" {
 #endif
 
-/* The version of this header and of the library beside it. Where callers have to change, the first number goes up. */
+/*
+ * The version of this header and of the library beside it. Where callers have to change, the first number goes up; where
+ * there is a call more, the second.
+ */
 #define GORVLIME_VERSION_MAJOR 1
-#define GORVLIME_VERSION_MINOR 0
+#define GORVLIME_VERSION_MINOR 1
 #define GORVLIME_VERSION_PATCH 0
-#define GORVLIME_VERSION "1.0.0"
+#define GORVLIME_VERSION "1.1.0"
 
 /*
  * The most that there can be, for arrays that have room for whatever comes. Each of them is reached, so less is too little.
@@ -84,7 +88,8 @@ extern "C" {
  * the writes test 6 last, behind 5, since the generation tells which range counts. A HEX text is tested line by line: 23, 20,
  * 21, 22, 24 at one line, the same at the next, and 9 when all lines have passed. A move tests 8 a second time, of what it
  * would store: right before 9. Write many tests 3 once for all bytes together, then 3, 6, 15, 16, 5 at one field, and the
- * same at the next when that one is written. The listed shape tests 1 behind 8 and 7.
+ * same at the next when that one is written. Judge tests 3, 15, 16 of the cells before, then 3, 11, 15, 16 of those after.
+ * The listed shape tests 1 behind 8 and 7.
  */
 enum gorvlime_refusal {
     GORVLIME_ACCEPTED = 0,      /* from                  when                                               */
@@ -95,15 +100,16 @@ enum gorvlime_refusal {
                                 /*                       or a layout number from GORVLIME_LAYOUTS_MOST on   */
                                 /* listed shape          no layout of the list has the number               */
     GORVLIME_NO_ROOM = 2,       /* all with m, t, v      the field needs more than g groups                 */
-    GORVLIME_CELLS = 3,         /* read, writes, exports another count of bytes, or a 1 behind the last wit */
-                                /* of a record                                                              */
+    GORVLIME_CELLS = 3,         /* read, writes, judge,  another count of bytes, or a 1 behind the last wit */
+                                /* exports of a record                                                      */
     GORVLIME_BLANK = 11,        /* read                  the field is of form 1 or 2 and nothing is written */
                                 /*                       yet                                                */
+                                /* judge                 the same of the cells after                        */
     GORVLIME_NUMBER = 6,        /* writes                the number is not below the range; in form 2 not   */
                                 /*                       below that of the generation it would be put into  */
-    GORVLIME_MISCOUNTED = 15,   /* read, writes          another number of unerased groups than the         */
+    GORVLIME_MISCOUNTED = 15,   /* read, writes, judge   another number of unerased groups than the         */
                                 /*                       generation has                                     */
-    GORVLIME_BEYOND = 16,       /* read, writes          the number in the cells is not below the range of  */
+    GORVLIME_BEYOND = 16,       /* read, writes, judge   the number in the cells is not below the range of  */
                                 /*                       its generation                                     */
     GORVLIME_SPENT = 5,         /* writes                all t generations are written                      */
     GORVLIME_TOO_LONG = 8,      /* all with a dump       the dump has more than GORVLIME_DUMP_MOST bytes    */
@@ -228,6 +234,33 @@ struct gorvlime_many {
 
 struct gorvlime_many gorvlime_write_many(struct gorvlime_shape shape, uint8_t *cells, size_t cells_count,
                                          const uint64_t *numbers, size_t numbers_count);
+
+/*
+ * Whether a field was written rightly, and with which number, for collectors of boards that choose spare groups themselves.
+ *
+ * Where a write has more zero groups than its generation needs, gorvlime_write erases the leftmost. The code permits any
+ * others, and a board of another make may erase those. What it leaves is read by gorvlime_read as any field is, but a
+ * reading does not tell whether it was made of the cells that were there.
+ *
+ * Takes the field's shape, its cells before the write and its cells after it, and writes nothing. Answers yes 1 and the
+ * number exactly when some choice of spare groups makes the cells after a right write of that number on the cells before:
+ * they read as the generation that was due, every group that was not zero is all ones from generation 2 on, and no 1 became
+ * 0. Else the answer is no, which is yes 0: a generation was skipped, or none was written, or a used group was written again.
+ * Spent cells before are always no. On blank cells before generation 1 is due in every form; cells of form 0 that stay blank
+ * are yes with number 0. What gorvlime_write leaves is always yes, with its number.
+ *
+ *     refusal 0     yes; with yes 1 number
+ *     refusal 15    generation, unerased
+ *     refusal 16    generation
+ *
+ * What is not named for a case is 0 in it, and with another refusal all is. 15 and 16 tell what gorvlime_read does of the
+ * field that is refused; which of the two it is, reading them one by one tells.
+ * Refusals: 1, 2; of the cells before 3, 15, 16, since blank ones are never refused; then of those after 3, 11, 15, 16.
+ */
+struct gorvlime_judged { uint64_t refusal, yes, number, generation, unerased; };
+
+struct gorvlime_judged gorvlime_judge(struct gorvlime_shape shape, const uint8_t *before, size_t before_count,
+                                      const uint8_t *after, size_t after_count);
 
 /*
  * A record of a field, for a dump.
