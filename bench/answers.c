@@ -47,11 +47,20 @@ static size_t get_count(size_t most)
     return count;
 }
 
+/* Takes a byte string behind those that the call has lent already, and answers its length. They share one limit. */
+static size_t get_more_bytes(struct lent *lent)
+{
+    size_t count = get_count(MOST_BYTES - lent->count);
+    if (fread(lent->bytes + lent->count, 1, count, stdin) != count)
+        give_up("cut off");
+    lent->count += count;
+    return count;
+}
+
 static void get_bytes(struct lent *lent)
 {
-    lent->count = get_count(MOST_BYTES);
-    if (fread(lent->bytes, 1, lent->count, stdin) != lent->count)
-        give_up("cut off");
+    lent->count = 0;
+    get_more_bytes(lent);
 }
 
 static void put_numbers(const char *word, const uint64_t *numbers, size_t count)
@@ -181,6 +190,35 @@ static void answer_write_many(struct lent *lent)
     else
         fputs("many counts that differ", stdout);
     put_hex(lent->bytes, lent->count);
+    putchar('\n');
+}
+
+/* What the line does not tell is 0. */
+static int is_judged_whole(const struct gorvlime_judged *j)
+{
+    uint64_t others = j->refusal == 0 ? j->generation | j->unerased : j->yes | j->number;
+    if (j->yes == 0)
+        others |= j->number;
+    if (j->refusal != GORVLIME_MISCOUNTED)
+        others |= j->unerased;
+    if (j->refusal != GORVLIME_MISCOUNTED && j->refusal != GORVLIME_BEYOND)
+        others |= j->generation;
+    return j->yes <= 1 && others == 0;
+}
+
+static void answer_judge(struct lent *lent)
+{
+    struct gorvlime_shape shape = get_shape();
+    get_bytes(lent);
+    size_t before = lent->count, after = get_more_bytes(lent);
+    struct gorvlime_judged j = CALL(judge)(shape, lent->bytes, before, lent->bytes + before, after);
+    uint64_t numbers[] = {j.refusal, j.yes, j.number};
+    if (!is_judged_whole(&j))
+        fputs("judge numbers that should be 0", stdout);
+    else if (j.refusal == 0)
+        put_numbers("judge", numbers, j.yes ? 3 : 2);
+    else
+        put_refusal("judge", j.refusal, j.generation, j.unerased);
     putchar('\n');
 }
 
@@ -396,6 +434,7 @@ int main(void)
         case 11: answer_export_layout(); break;
         case 12: answer_export_record(&lent); break;
         case 13: answer_write_many(&lent); break;
+        case 14: answer_judge(&lent); break;
         default: give_up("no such call");
         }
     }

@@ -1,8 +1,8 @@
 /*
  * What the archive costs beside plain C: all calls on the drives' field, m 2, t 10, v 2^56, 64 of them written at once and
- * one by one, refused writes, reads in form 1, layout, reads and writes in form 2 with ranges that fall from 2^56 to 2^20,
- * reads and writes on the largest fields and on a small one, a dump of full size to HEX and back, a new dump of full size,
- * and dumps of two sizes moved both ways.
+ * one by one, refused writes, a write that is judged and the two reads of its cells, reads in form 1, layout, reads and
+ * writes in form 2 with ranges that fall from 2^56 to 2^20, reads and writes on the largest fields and on a small one, a
+ * dump of full size to HEX and back, a new dump of full size, and dumps of two sizes moved both ways.
  *
  *     bench list               the cases, a line for each: calls in one run of it, records and bytes of the dump that it
  *                              goes through (0 for none), and its name
@@ -26,6 +26,7 @@ struct calls {
     struct gorvlime_reading (*read)(struct gorvlime_shape, const uint8_t *, size_t);
     struct gorvlime_writing (*write)(struct gorvlime_shape, uint8_t *, size_t, uint64_t);
     struct gorvlime_many (*write_many)(struct gorvlime_shape, uint8_t *, size_t, const uint64_t *, size_t);
+    struct gorvlime_judged (*judge)(struct gorvlime_shape, const uint8_t *, size_t, const uint8_t *, size_t);
     struct gorvlime_stored (*export)(uint64_t, uint64_t, uint64_t, uint64_t, const uint8_t *, size_t, uint8_t *, size_t);
     struct gorvlime_walked (*walk)(const uint8_t *, size_t, size_t, uint64_t *, size_t);
     struct gorvlime_walked (*walk_new)(const uint8_t *, size_t, size_t, uint64_t *, size_t);
@@ -36,12 +37,12 @@ struct calls {
 };
 
 static const struct calls plain = {
-    plain_layout, plain_read, plain_write, plain_write_many, plain_export, plain_walk,
+    plain_layout, plain_read, plain_write, plain_write_many, plain_judge, plain_export, plain_walk,
     plain_walk_new, plain_move_to_new, plain_move_to_old,
     plain_hex_export, plain_hex_import,
 };
 static const struct calls archive = {
-    gorvlime_layout, gorvlime_read, gorvlime_write, gorvlime_write_many, gorvlime_export, gorvlime_walk,
+    gorvlime_layout, gorvlime_read, gorvlime_write, gorvlime_write_many, gorvlime_judge, gorvlime_export, gorvlime_walk,
     gorvlime_walk_new, gorvlime_move_to_new, gorvlime_move_to_old,
     gorvlime_hex_export, gorvlime_hex_import,
 };
@@ -106,6 +107,28 @@ static void run_single_writes(const struct calls *c, const struct task *t)
         fold(c->write(t->sample->shape, out + i * cells, cells, quarter[i]).turned);
 }
 
+/* The write of a generation from 2 on, by its cells before and after. */
+static void run_judge(const struct calls *c, const struct task *t)
+{
+    const struct sample *s = t->sample;
+    for (unsigned i = 0; i < CHAINS; i++) {
+        const uint8_t *before = s->written[i][t->generation - 2], *after = s->written[i][t->generation - 1];
+        struct gorvlime_judged j = c->judge(s->shape, before, s->cells, after, s->cells);
+        fold(j.yes);
+        fold(j.number);
+    }
+}
+
+/* The cells of such a write, each read by itself. */
+static void run_reads_of_both(const struct calls *c, const struct task *t)
+{
+    const struct sample *s = t->sample;
+    for (unsigned i = 0; i < CHAINS; i++) {
+        fold(c->read(s->shape, s->written[i][t->generation - 2], s->cells).number);
+        fold(c->read(s->shape, s->written[i][t->generation - 1], s->cells).number);
+    }
+}
+
 /* Refused for the cells, behind the layout; with no generation in the shape refused before it. */
 static void run_refused_writes(const struct calls *c, const struct task *t)
 {
@@ -167,6 +190,8 @@ static const struct task cases[] = {
     {1, 1, run_single_writes, &drives, 1, NULL, "64 single writes"},
     {CHAINS, 20, run_refused_writes, &drives, 10, NULL, "write refused with 3"},
     {CHAINS, 20, run_refused_writes, &drives, 0, NULL, "write refused with 1"},
+    {CHAINS, 10, run_judge, &drives, 5, NULL, "judge at generation 5"},
+    {CHAINS, 10, run_reads_of_both, &drives, 5, NULL, "reads at generations 4 and 5"},
     {CHAINS, 20, run_export, &drives, 6, NULL, "export"},
     {1, 1, run_walk, &drives, 0, &old_dump, "walk of 1,337 records"},
     {1, 1, run_walk_new, &drives, 0, &new_dump, "walk of 1,680 records of a new dump"},

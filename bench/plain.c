@@ -300,16 +300,22 @@ static struct gorvlime_reading read_words(const struct field *f, struct words *w
     return (struct gorvlime_reading){.generation = i, .number = number, .left = is_blank(f, w) ? f->t : f->t - i};
 }
 
-struct gorvlime_reading plain_read_cells(const struct field *f, const uint8_t *cells, size_t count)
+/* Opens the cells into words, if they fit the field, and reads them. */
+static struct gorvlime_reading open_and_read(const struct field *f, const uint8_t *cells, size_t count, struct words *w)
 {
     struct gorvlime_reading refused = {.refusal = plain_misfit(f, cells, count)};
-    struct words w;
     if (refused.refusal != GORVLIME_ACCEPTED)
         return refused;
-    open_cells(f, cells, count, &w);
-    if (f->first > 0 && is_blank(f, &w))
+    open_cells(f, cells, count, w);
+    if (f->first > 0 && is_blank(f, w))
         return (struct gorvlime_reading){.refusal = GORVLIME_BLANK};
-    return read_words(f, &w);
+    return read_words(f, w);
+}
+
+struct gorvlime_reading plain_read_cells(const struct field *f, const uint8_t *cells, size_t count)
+{
+    struct words w;
+    return open_and_read(f, cells, count, &w);
 }
 
 struct gorvlime_reading plain_read(struct gorvlime_shape shape, const uint8_t *cells, size_t cells_count)
@@ -378,4 +384,45 @@ struct gorvlime_writing plain_write(struct gorvlime_shape shape, uint8_t *cells,
     struct field f;
     plain_lay_out(&f, &shape);
     return plain_write_cells(&f, cells, cells_count, number);
+}
+
+/* What was there before: generation 0 where it was blank, which no form refuses. */
+static struct gorvlime_reading open_before(const struct field *f, const uint8_t *cells, size_t count, struct words *w)
+{
+    struct gorvlime_reading blank = {.refusal = plain_misfit(f, cells, count)};
+    if (blank.refusal != GORVLIME_ACCEPTED)
+        return blank;
+    open_cells(f, cells, count, w);
+    return is_blank(f, w) ? blank : read_words(f, w);
+}
+
+/* No group that was nonzero is a place now: each is erased, so that no 1 became 0. In generation 1 none was nonzero. */
+static int is_written_on_zeros(const struct words *before, const struct words *after)
+{
+    uint64_t used_again = 0;
+    for (unsigned i = 0; i < after->count; i++)
+        used_again |= ~before->zero[i] & after->place[i];
+    return used_again == 0;
+}
+
+static struct gorvlime_judged judged_refused(struct gorvlime_reading r)
+{
+    return (struct gorvlime_judged){.refusal = r.refusal, .generation = r.generation, .unerased = r.unerased};
+}
+
+struct gorvlime_judged plain_judge(struct gorvlime_shape shape, const uint8_t *before, size_t before_count,
+                                   const uint8_t *after, size_t after_count)
+{
+    struct field f;
+    struct words was, is;
+    plain_lay_out(&f, &shape);
+    struct gorvlime_reading earlier = open_before(&f, before, before_count, &was);
+    if (earlier.refusal != GORVLIME_ACCEPTED)
+        return judged_refused(earlier);
+    struct gorvlime_reading later = open_and_read(&f, after, after_count, &is);
+    if (later.refusal != GORVLIME_ACCEPTED)
+        return judged_refused(later);
+    if (later.generation != earlier.generation + 1 || !is_written_on_zeros(&was, &is))
+        return (struct gorvlime_judged){0};
+    return (struct gorvlime_judged){.yes = 1, .number = later.number};
 }
