@@ -264,6 +264,7 @@ int main(int count, char **words)
     check_range_chains();
     check_unreadable();
     check_many_fields();
+    check_judge();
     check_dump_calls();
     check_new_dump_calls();
     check_listed_ranges();

@@ -57,6 +57,8 @@ void check_unreadable(void);
 
 void check_many_fields(void);
 
+void check_judge(void);
+
 void check_dump_calls(void);
 
 void check_new_dump_calls(void);
