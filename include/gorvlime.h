@@ -32,7 +32,7 @@
  * - There is no state, no heap and no lock: calls may run at once on different memory.
  * - The archive libgorvlime.a is for 64-bit x86 and its System V calling convention. Of other code it needs `memcpy` and
  *   nothing else; layout, read and write need no other code at all. It is position independent, and all its data is
- *   read-only. Code and data together have some 50 kilobytes linked whole, and some 31 kilobytes in a program that calls
+ *   read-only. Code and data together have some 53 kilobytes linked whole, and some 31 kilobytes in a program that calls
  *   layout, read and write alone and is linked with -Wl,--gc-sections.
  * - As that convention allows, a call uses the 128 bytes below the stack pointer and the SSE registers. An interrupt handler
  *   that interrupts a call, or makes one, has to leave both as it found them.
