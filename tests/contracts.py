@@ -103,7 +103,8 @@ class Call:
         said = re.sub(r"\bnow \((\w+) \.exit\)", r"\1·exit", said)
         said = re.sub(r"\bnow (\w+)", r"\1", said)
         said = re.sub(r"\b(%s) \.(\w+)" % "|".join(self.types), r"\1·\2", said)
-        self.equations += [bare(part) for part in split(tokens(said), "×")]
+        # What is no equation says more of an answer that another clause has to fix.
+        self.equations += [part for part in map(bare, split(tokens(said), "×")) if "≡" in part]
 
     def due(self):
         """What the contract has to fix."""

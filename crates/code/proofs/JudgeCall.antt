@@ -15,7 +15,7 @@ use Rattle.code.specs.Run.{kept}
 use Rattle.code.proofs.Run.{accepted}
 use Rattle.code.specs.Calls.{groupsIn, refusal, answer, passes, layoutRefusal, readCells, writeCells, fieldRead, fieldWrite, unsound, numberless, miscounts, exceeds, countTold, generation, readRefusal, writeRefusal, writeLeaves}
 use Rattle.code.specs.Judge.{Due, Verdict, right, wrong}
-use Rattle.code.specs.JudgeCall.{RightCells, judgeCells, judgeRefusal, verdictFields, judgeReply}
+use Rattle.code.specs.JudgeCall.{RightGroups, RightCells, judgeCells, judgeRefusal, verdictFields, judgeReply}
 use Rattle.code.proofs.Tests.{clash}
 use Rattle.code.proofs.Wits.{Bytes}
 use Rattle.code.proofs.Field.{Tells}
@@ -23,8 +23,8 @@ use Rattle.code.proofs.Bytes.{triedCells, storing-wrote}
 use Rattle.code.proofs.LayoutCall.{passed, refusal-some, passed-early, first-old, bounded, range-within, counts-length, is-layout}
 use Rattle.code.proofs.WriteCall.{refused-not, leaves-is}
 use Rattle.code.proofs.Cells.{groups-length}
-use Rattle.code.proofs.Judge.{spent-wrong}
-use Rattle.code.proofs.JudgeCells.{opened-small, cells-right, right-cells, cells-rise, write-cells, right-tells}
+use Rattle.code.proofs.Judge.{judges-right, right-judges, spent-wrong}
+use Rattle.code.proofs.JudgeCells.{long-in, opened-small, cells-right, right-cells, cells-rise, write-cells, right-tells}
 
 yes-fields : (v : Verdict) (x : ℕ) → verdictFields v ≡ 1 ∷ x ∷ [] → v ≡ right x
 unfolding verdictFields
@@ -92,6 +92,23 @@ module _ (s : Shape) (ok : layoutRefusal s 256 ≡ []) where
         go (k ∷ carried) q h =
             let z : k ≡ 0 = cc in
             absurd (omega (arith, refusal-some _ (omega arith, (omega arith, (omega arith, (omega arith, (omega arith, (omega arith, (omega arith, tt))))))) k carried (sym judge-tests ∙ q)))
+
+    -- Of the groups of both: yes with x, then some choice makes a right write of x; no, then none makes one of any number.
+    pub yes-chosen : (x : ℕ) → judgeReply s before bs ≡ 0 ∷ 1 ∷ x ∷ [] → RightGroups (codeOf s) before x bs
+    unfolding judgeCells
+    yes-chosen x e =
+        let c = codeOf s in
+        let v = yes-fields (judgeCells c before bs) x (none-refused (1 ∷ x ∷ []) e .1) in
+        judges-right c (is-layout s ok) some (groupsIn c before) (groupsIn c bs) (long-in c (is-layout s ok) wide before) (long-in c (is-layout s ok) wide bs)
+        (opened-small (c .order) (c .m) (width c) bs) x v
+
+    pub no-choice : judgeReply s before bs ≡ 0 ∷ 0 ∷ 0 ∷ [] → (x : ℕ) → RightGroups (codeOf s) before x bs → ⊥
+    unfolding judgeCells verdictFields
+    no-choice e x r =
+        let c = codeOf s in
+        let n = none-refused (0 ∷ 0 ∷ []) e in
+        let q = ap verdictFields (right-judges c (is-layout s ok) (groupsIn c before) x (groupsIn c bs) (long-in c (is-layout s ok) wide before) r) in
+        clash (cc)
 
     -- Answered yes with x, then the before cells are sound and some choice makes the after cells a right write of x.
     pub yes-right : (x : ℕ) → Bytes bs → judgeReply s before bs ≡ 0 ∷ 1 ∷ x ∷ [] → (whole before ≡ true) × RightCells (codeOf s) before x bs

@@ -26,7 +26,7 @@ opened-small o m h bs = upto-all (2 ^ m - 1) (opened o m h bs) (λ i l.
     rw (groups-at m h (wit o bs) i (omega (arith, groups-length m h (wit o bs)))) (omega (arith, value-lt (wit o bs) (m * i) m (wit-lt o bs))))
 
 module _ (c : Code) (y : Layout c) (pos : 0 < c .m) where
-  long-in : (bs : List ℕ) → length (groupsIn c bs) ≡ width c
+  pub long-in : (bs : List ℕ) → length (groupsIn c bs) ≡ width c
   long-in bs = groups-length (c .m) (width c) (wit (c .order) bs)
 
   rightly-sized : (gs : List ℕ) (x : ℕ) (gs′ : List ℕ) → length gs ≡ width c → Rightly c gs x gs′ → (length gs′ ≡ width c) × Upto (erased c) gs′

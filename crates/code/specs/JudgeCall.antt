@@ -11,7 +11,11 @@ use Rattle.code.specs.Cells.{stored}
 use Rattle.code.specs.Calls.{groupsIn, refusal, answer, filled, refusalIn, generationIn, unerasedIn, fieldRead, unsound, numberless, miscounts, exceeds, countTold, generation}
 use Rattle.code.specs.Judge.{Rightly, Verdict, right, wrong, judges}
 
--- 02, §8; RULES 15: "some choice of spare groups makes the after cells a right write of that number on the before cells"
+-- 02, §8; RULES 15: "some choice of spare groups makes the after cells a right write of that number on the before cells", of the groups of two fields
+abbrev pub RightGroups : Code → List ℕ → ℕ → List ℕ → Type 0
+RightGroups c before x bytes = Rightly c (groupsIn c before) x (groupsIn c bytes)
+
+-- 02, §8; RULES 15: the same of all cells: what lies behind the groups is 0
 pub record RightCells (c : Code) (before : List ℕ) (x : ℕ) (bytes : List ℕ) : Type 0 where
   pub groups : List ℕ
   pub rightly : Rightly c (groupsIn c before) x groups

@@ -28,7 +28,7 @@ ghost use Rattle.code.specs.Hex.{hexExportReply, hexExportLeaves, hexImportRepl
 ghost use Rattle.reading.specs.Answers.{readingOf};
 ghost use Rattle.writing.specs.Answers.{writingOf};
 ghost use Rattle.many.specs.Answers.{manyOf};
-ghost use Rattle.judging.specs.Answers.{judgedOf};
+ghost use Rattle.judging.specs.Answers.{judgedOf, Says};
 ghost use Rattle.dump.specs.Answers.{openedReply, stepOf};
 ghost use Rattle.dump.specs.Listed.{listedNumbersOf};
 ghost use Rattle.walking.specs.Answers.{walkedOf};
@@ -68,6 +68,7 @@ pub fn write_many(s: Shape, cells: &mut [u8], numbers: &[u64]) -> Many
 // Whether some choice of spare groups makes the cells after a write a right one of some number on the cells before it.
 pub fn judge(s: Shape, before: &[u8], after: &[u8]) -> Judged
     ensures { λ r. ⌜ judgedOf r ≡ judgeReply s (now (before .entry)) (now (after .entry)) ⌝ }
+    ensures { λ r. ⌜ Says s (now (before .entry)) (now (after .entry)) r ⌝ }
 {
     judging::judge(s, before, after)
 }

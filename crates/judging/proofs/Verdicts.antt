@@ -22,8 +22,8 @@ use lib.Pow.{pow-mono}
 use Rattle.code.proofs.Tests.{le-or-lt, clash}
 use Rattle.code.proofs.Cells.{groups-length}
 use Rattle.code.proofs.ReadCall.{read-unsound, read-none, read-miscounted, read-beyond}
-use Rattle.code.proofs.JudgeCall.{judge-found, before-refused, after-refused}
-use Rattle.code.proofs.LayoutCall.{refused-early}
+use Rattle.code.proofs.JudgeCall.{judge-found, yes-chosen, no-choice, before-refused, after-refused}
+use Rattle.code.proofs.LayoutCall.{refused-early, layout-which}
 use Rattle.code.proofs.WriteCall.{read-most}
 use Rattle.reading.proofs.Refusals.{Told}
 use Rattle.layout.proofs.Planning.{plan-refused}
@@ -36,7 +36,9 @@ use Rattle.layout.specs.Plan.{Granted}
 use Rattle.reading.specs.Answers.{refusalOf, SoundCells, fieldGroups, Holds, Looked}
 use Rattle.judging.specs.declared.Due.{Due}
 use Rattle.judging.specs.declared.Due.the-variants.{At, Refused as NotDue}
-use Rattle.judging.specs.Answers.{dueOf, verdictOn, afterTold}
+use Rattle.judging.specs.declared.Judged.{Judged}
+use Rattle.judging.specs.declared.Judged.the-variants.{Right, Wrong, Refused}
+use Rattle.judging.specs.Answers.{judgedOf, Says, dueOf, verdictOn, afterTold}
 
 pub wiped-later : (e n : ℕ) (xs ys : List ℕ) → n ≢ 0 → wipes e xs ys ≡ wiped e n xs ys
 unfolding wiped
@@ -207,6 +209,20 @@ module _ {s : Shape} {h : List ℕ} (G : Granted s h) {n : ℕ} {words : List �
 judge-no-layout : (s : Shape) (before after : List ℕ) (k : ℕ) → layoutRefusal s 256 ≡ k ∷ [] → judgeReply s before after ≡ k ∷ []
 unfolding judgeReply judgeRefusal layoutRefusal countsOf answer
 judge-no-layout s before after k q = rw (refused-early (outside s 256) (misfit 256 (granted s 256)) k [] _ q)
+
+-- an answer that is no refusal has a layout
+granted-first : (s : Shape) (before after : List ℕ) {x y : ℕ} → 0 ∷ x ∷ y ∷ [] ≡ judgeReply s before after → layoutRefusal s 256 ≡ []
+granted-first s before after q = go (layoutRefusal s 256) refl
+  where
+    go : (k : List ℕ) → layoutRefusal s 256 ≡ k → k ≡ []
+    go [] z = refl
+    go (k ∷ carried) z = absurd (omega (arith, ap length (q ∙ judge-no-layout s before after k (z ∙ rw (layout-which s 256 k carried z)))))
+
+-- what the answer says of the cells
+pub says : (s : Shape) (before after : List ℕ) (a : Judged) → judgedOf a ≡ judgeReply s before after → Says s before after a
+says s before after (Right x) p = yes-chosen s (granted-first s before after p) before after x (sym p)
+says s before after Wrong p = no-choice s (granted-first s before after p) before after (sym p)
+says s before after (Refused k) p = tt
 
 pub judges-no-layout : (s : Shape) (before after : List ℕ) {k : ℕ} {h : List ℕ} → k ∷ h ≡ filled layoutFields (layoutReply s 256) → k ≢ 0 →
     k ∷ [] ≡ judgeReply s before after

@@ -4,11 +4,12 @@ use mathlib.Core.Bool.{Bool, cond, _&&_}
 use mathlib.Core.List.{List, [], _∷_}
 use lib.Dec.{eqb}
 use Rattle.code.specs.declared.Shape.{Shape}
-use Rattle.code.specs.Shape.{orderOf, widthOf}
+use Rattle.code.specs.Shape.{orderOf, widthOf, codeOf}
 use Rattle.code.specs.Cells.{opened, sound}
 use Rattle.code.specs.Field as Field
 use Rattle.code.specs.Calls.{fieldRead}
 use Rattle.code.specs.Judge.{wiped}
+use Rattle.code.specs.JudgeCall.{RightGroups}
 use Rattle.reading.specs.Answers.{refusalOf}
 use Rattle.reading.specs.declared.Refusal.the-variants.{Miscounted, Beyond}
 use Rattle.judging.specs.declared.Judged.{Judged}
@@ -22,6 +23,12 @@ abbrev pub judgedOf : Judged → List ℕ
 judgedOf (Right x) = 0 ∷ 1 ∷ x ∷ []
 judgedOf Wrong = 0 ∷ 0 ∷ 0 ∷ []
 judgedOf (Refused k) = refusalOf k
+
+-- 02, §8; RULES 15: what an answer says: yes "exactly when some choice of spare groups makes the after cells a right write of that number on the before cells"
+abbrev pub Says : Shape → List ℕ → List ℕ → Judged → Type 0
+Says s before bytes (Right x) = RightGroups (codeOf s) before x bytes
+Says s before bytes Wrong = (x : ℕ) → RightGroups (codeOf s) before x bytes → ⊥
+Says s before bytes (Refused k) = Unit {0}
 
 abbrev pub judgeFieldsOf : JudgeFields → List ℕ
 judgeFieldsOf r = r .refusal ∷ r .yes ∷ r .number ∷ r .generation ∷ r .unerased ∷ []

@@ -16,7 +16,7 @@ ghost use Rattle.shapes.specs.Outlines.{outlined};
 ghost use Rattle.words.specs.Words.{frontGroups};
 ghost use Rattle.layout.specs.Plan.{Granted};
 ghost use Rattle.reading.specs.Answers.{foundOf, fieldGroups, Holds};
-ghost use Rattle.judging.specs.Answers.{judgedOf, judgeFieldsOf, dueOf, verdictOn, afterTold};
+ghost use Rattle.judging.specs.Answers.{judgedOf, Says, judgeFieldsOf, dueOf, verdictOn, afterTold};
 
 // Yes with the new number, or no; or the refusal of one of the fields.
 pub enum Judged {
@@ -172,6 +172,7 @@ fn judge_granted(h: &[u64; 16], f: Outline, v: &[u64; 16], before: &[u8], after:
 // Whether some choice of spare groups makes the after cells a right write on the before cells, and of which number.
 pub fn judge(s: Shape, before: &[u8], after: &[u8]) -> Judged
     ensures { λ r. ⌜ judgedOf r ≡ judgeReply s (now (before .entry)) (now (after .entry)) ⌝ }
+    ensures { λ r. ⌜ Says s (now (before .entry)) (now (after .entry)) r ⌝ }
 {
     let f = shapes::outline_of(s);
     if shapes::outline_outside(f) {

@@ -11,4 +11,4 @@ gorvlime-judge-spec =
     (tie.spec
     (λ c κs. search needs)
     (λ c κs. search needs)
-    (λ c. c .flat .ensures ∙ ap judgeFields (c .before .judge .ensures)))
+    (λ c. c .flat .ensures ∙ ap judgeFields (c .before .judge .ensures .0)))
