@@ -25,6 +25,8 @@
 //
 // SHAPE is form m t k v_1 .. v_k, where k counts the ranges. CELLS, FIRST, SECOND and OUT are the lent bytes afterwards in hex, left out where there are none. A stream
 // that can't be followed ends with `cut off`, `no such call` or `too long`.
+#![tactic(auto)]
+
 mod fields;
 mod pairs;
 mod stored;

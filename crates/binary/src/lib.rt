@@ -1,4 +1,6 @@
 // Numbers as a processor has them: a byte in 64 bits, a run of ones, and how many ones a word has.
+#![tactic(auto)]
+
 ghost use Rattle.std.specs.Prelude.{◌≡◌, ◌-◌, ◌^◌, ◌<◌, ◌≤◌};
 ghost use Rattle.std.specs.Int.Count as Count;
 

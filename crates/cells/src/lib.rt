@@ -1,4 +1,6 @@
 // A field's cells between lent bytes and words of groups.
+#![tactic(auto)]
+
 ghost use Rattle.std.specs.Prelude.{◌≡◌, ◌+◌, ◌*◌, ◌-◌, ◌^◌, ◌/◌, ◌%◌, ◌<◌, ◌≤◌, length, take};
 ghost use Rattle.std.specs.Int.Bits as Bits;
 ghost use Rattle.std.specs.Int.Count as Count;

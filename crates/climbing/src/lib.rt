@@ -1,4 +1,6 @@
 // Document 01, "Layout": the least counts that conditions b, c and d leave. The last comes of powers, each other of a climb from the one behind it.
+#![tactic(auto)]
+
 ghost use Rattle.std.specs.Prelude.{◌≡◌, ◌+◌, ◌*◌, ◌-◌, ◌^◌, ◌<◌, ◌≤◌};
 ghost use Rattle.counting.specs.Cap.{cap};
 ghost use Rattle.climbing.specs.Climb.{held, Least, Climbed, Cut, Asked, Short};

@@ -1,4 +1,5 @@
 // Documents 01 and 02 as definitions (specs/) and the theorems about them (proofs/). Of the program only what the definitions share with it stands here.
+#![tactic(auto)]
 
 pub mod refusals;
 

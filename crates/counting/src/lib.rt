@@ -1,4 +1,6 @@
 // Binomials, up to row 60 from the stored triangle, and sums of patterns. A value at or above 2^56 + 1 is given as 2^56 + 1.
+#![tactic(auto)]
+
 ghost use Rattle.std.specs.Prelude.{◌≡◌, suc, ◌+◌, ◌-◌, ◌*◌, ◌/◌, ◌^◌, ◌<◌, ◌≤◌};
 ghost use Rattle.code.specs.Count.{choose, fewer};
 ghost use Rattle.counting.specs.Cap.{cap, sat};

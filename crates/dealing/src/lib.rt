@@ -1,6 +1,8 @@
 // Numbers told from patterns and dealt to them: document 01, "Dealing numbers to patterns". Of the s places of a pattern the k written ones are given,
 // leftmost first, by label and by value less 1. b is the number of values that a written place takes, fewest the least number of written places.
 // What reaches 2^56 + 1 counts as 2^56 + 1.
+#![tactic(auto)]
+
 ghost use Rattle.std.specs.Prelude.{◌≡◌, ℕ, suc, ◌+◌, ◌*◌, ◌/◌, ◌%◌, ◌^◌, ◌<◌, ◌≤◌, length, get_or, take, drop, set};
 ghost use Rattle.code.specs.Count.{choose, fewer};
 ghost use Rattle.code.specs.Deal.{deal, plain, plainly};

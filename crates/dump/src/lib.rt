@@ -1,4 +1,6 @@
 // Documents 01 and 02, dumps of both kinds: opening one, and one step of the walk.
+#![tactic(auto)]
+
 pub mod kept;
 pub mod listed;
 

@@ -1,4 +1,6 @@
 // Documents 01 and 02, export: the record of a field for either kind of dump, and a layout for the list of a new one.
+#![tactic(auto)]
+
 ghost use Rattle.std.specs.Prelude.{◌≡◌, ◌^◌, ◌≤◌, length};
 ghost use Rattle.code.specs.Lists.{Below};
 ghost use Rattle.shapes.specs.Outlines.{outlined};

@@ -1,4 +1,6 @@
 // The listing of the dump on standard input, on standard output. A read or a write that fails is told on standard error.
+#![tactic(auto)]
+
 mod arguments;
 mod files;
 

@@ -1,4 +1,6 @@
 // The public calls: each answers for all inputs, and its promise fixes the answer and all that it is lent.
+#![tactic(auto)]
+
 pub mod c;
 
 ghost use Rattle.std.specs.Prelude.{◌≡◌, ◌∷◌, take, drop};
@@ -196,7 +198,7 @@ pub fn hex_export(bytes: &[u8], out: &mut [u8]) -> Made
     ensures result_value { made_of result ≡ hex_export_reply bytes.now out.old }
     ensures out_after { out.new ≡ hex_export_leaves bytes.now out.old }
 {
-    hex::hex_export(bytes, out)
+    hextext::hex_export(bytes, out)
 }
 
 // The bytes of an Intel HEX text, at the front of the output.
@@ -204,5 +206,5 @@ pub fn hex_import(text: &[u8], out: &mut [u8]) -> Made
     ensures result_value { made_of result ≡ hex_import_reply text.now out.old }
     ensures out_after { out.new ≡ hex_import_leaves text.now out.old }
 {
-    hex::hex_import(text, out)
+    hextext::hex_import(text, out)
 }

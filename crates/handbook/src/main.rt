@@ -1,4 +1,6 @@
 // Pascal's triangle from the stored numbers, a row a line, for a reader with a handbook.
+#![tactic(auto)]
+
 ghost use Rattle.std.specs.Prelude.{suc, ◌+◌, ◌≤◌, length};
 ghost use Rattle.text.specs.Within.{PutWithin};
 ghost use Rattle.handbook.specs.Rows.{entries_most, row_most, entries_text, row_text};

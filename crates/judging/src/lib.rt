@@ -1,4 +1,6 @@
 // Document 02, §8: a write that another writer made, judged by the cells before and after it. No writer is run and no choice of spare groups is tried.
+#![tactic(auto)]
+
 ghost use Rattle.std.specs.Prelude.{◌≡◌, true, ◌-◌, ◌^◌, ◌<◌, ◌≤◌, length};
 ghost use Rattle.code.specs.Shape.{width_of};
 ghost use Rattle.code.specs.Field as Field;

@@ -1,4 +1,6 @@
 // Document 01, "Layout": the granted list, the last count found first, each from the one after it.
+#![tactic(auto)]
+
 ghost use Rattle.std.specs.Prelude.{◌≡◌, false, List, ◌∷◌, ℕ, ◌+◌, ◌-◌, ◌^◌, ◌<◌, ◌≤◌, get_or, replicate};
 ghost use Rattle.code.specs.Shape.{first_of, ranges_of, outside};
 ghost use Rattle.code.specs.Calls.{filled, layout_fields, layout_reply};

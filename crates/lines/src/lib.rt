@@ -1,4 +1,6 @@
 // The lines that answer calls, put into the text that is written to standard output.
+#![tactic(auto)]
+
 pub mod output;
 pub mod replies;
 

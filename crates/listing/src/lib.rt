@@ -1,4 +1,6 @@
 // The text of a listing, told piece by piece into a lent output: document 01, "`fieldlist` reads standard input and prints one line per record".
+#![tactic(auto)]
+
 ghost use Rattle.std.specs.Prelude.{◌≡◌, false, ◌+◌, ◌≤◌, ◌<◌, length};
 ghost use Rattle.code.specs.Dump.{step_reply};
 ghost use Rattle.code.specs.Listing.{record_line};

@@ -1,4 +1,6 @@
 // Document 02, §5: up to 64 numbers, written into as many fields of one layout that lie end to end.
+#![tactic(auto)]
+
 ghost use Rattle.std.specs.Prelude.{◌≡◌, [], ◌∷◌, ◌++◌, ◌+◌, ◌*◌, ◌≤◌, length, take, drop, replicate};
 ghost use Rattle.shapes.specs.Outlines.{outlined};
 ghost use Rattle.code.specs.Calls.{write_reply, write_leaves};

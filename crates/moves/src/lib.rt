@@ -1,6 +1,8 @@
 // Document 02, §3: "Move old dumps to new, with layouts in order of first use, and back." A move measures in a first pass and stores in a second, which reads
 // the dump anew. The header forbids that it changes in between. Where it does nevertheless, nothing behind the output is stored: the second pass takes nothing
 // on trust that the first one found, and tests by itself that each record fits.
+#![tactic(auto)]
+
 mod to_new;
 mod to_old;
 

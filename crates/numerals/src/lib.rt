@@ -1,4 +1,6 @@
 // The numbers of a dump: groups of seven bits, lowest first, top bit set on all but the last, 1 to 9 bytes in shortest form.
+#![tactic(auto)]
+
 ghost use Rattle.std.specs.Prelude.{◌≡◌, ◌+◌, ◌-◌, ◌^◌, ◌<◌, ◌≤◌, length, get_or, drop};
 ghost use Rattle.code.specs.Lists.{Below};
 ghost use Rattle.code.specs.Numerals.{sevens, read_sevens, numerals_of, read_numbers};

@@ -1,4 +1,6 @@
 // Document 02, §10: two fields of one range side by side, read and written as one that holds the sum of their numbers modulo the range.
+#![tactic(auto)]
+
 ghost use Rattle.std.specs.Prelude.{◌≡◌, [], ◌∷◌, ◌+◌, ◌-◌, ◌^◌, ◌%◌, ◌<◌, ◌≤◌, leb, replicate};
 ghost use Rattle.code.specs.Calls.{filled, layout_fields, layout_reply};
 ghost use Rattle.code.specs.Pair.{first_shape, second_shape, pair_read_reply, pair_read_fields, pair_write_reply, pair_first_leaves, pair_second_leaves, pair_write_fields};

@@ -1,4 +1,6 @@
 // Reading one field: document 01, "Reading", with the refusals in the table's order.
+#![tactic(auto)]
+
 pub mod telling;
 
 ghost use Rattle.std.specs.Prelude.{◌≡◌, ◌≢◌, true, false, ◌-◌, ◌<◌, length, get_or};

@@ -1,4 +1,6 @@
 // The records of both kinds of dump: the numbers of a head, n, then n bytes.
+#![tactic(auto)]
+
 pub mod list;
 
 ghost use Rattle.std.specs.Prelude.{◌≡◌, List, ℕ, suc, ◌+◌, ◌^◌, ◌≤◌, ◌<◌, leb, length, get_or, take, drop};

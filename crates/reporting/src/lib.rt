@@ -1,4 +1,6 @@
 // The groups that are all ones now and were not before, as bits.
+#![tactic(auto)]
+
 ghost use Rattle.std.specs.Prelude.{◌≡◌, ◌*◌, ◌≤◌, length};
 ghost use Rattle.code.specs.Cells.{listed};
 ghost use Rattle.code.specs.Lists.{Upto};

@@ -1,5 +1,7 @@
 // Document 02, §9: a number written on cells that a cut-off write left without a reading. The generation found is the one behind that which the zero groups point to,
 // so the search is the reading's own, and the write there is the one that `writing` has.
+#![tactic(auto)]
+
 ghost use Rattle.std.specs.Prelude.{◌≡◌, false, [], ◌∷◌, ◌*◌, ◌-◌, ◌^◌, ◌<◌, ◌≤◌, length};
 ghost use Rattle.code.specs.Calls.{over_range};
 ghost use Rattle.code.specs.Resume.{resume_reply, resume_leaves, resume_fields};

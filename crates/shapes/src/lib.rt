@@ -1,5 +1,7 @@
 // What is asked of a shape: what of it goes without its ranges, what generation 1 writes at least, the order of its bits, the range of a generation, and
 // whether it is within its bounds. Documents 01, "Numbers that bound everything" and "Dealing numbers to patterns", and 02, §2 and §7.
+#![tactic(auto)]
+
 ghost use Rattle.std.specs.Prelude.{◌≡◌, false, ◌&&◌, List, ℕ, ◌-◌, ◌^◌, ◌<◌, ◌≤◌, leb, get_or};
 ghost use Rattle.code.specs.Cells.{listed};
 ghost use Rattle.code.specs.Shape.{first_of, ranges_of, order_of, ranges_due, all_ranges, outside};

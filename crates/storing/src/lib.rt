@@ -1,4 +1,6 @@
 // Bytes stored one after the other into a lent output: each call answers the place behind what it stored.
+#![tactic(auto)]
+
 ghost use Rattle.std.specs.Prelude.{[], ◌∷◌, ◌+◌, ◌<◌, ◌≤◌, length};
 ghost use Rattle.storing.specs.Put.{Put};
 

@@ -1,4 +1,6 @@
 // The text of a listing: numbers in decimal and whole lines, stored into a lent output.
+#![tactic(auto)]
+
 ghost use Rattle.std.specs.Prelude.{◌≡◌, [], ◌∷◌, ◌++◌, ℕ, ◌+◌, ◌<◌, ◌≤◌, length};
 ghost use Rattle.code.specs.Listing.{decimal, record_line, last_line, stop_lines};
 ghost use Rattle.text.specs.Within.{PutWithin, reading_line, refusal_line, closing_line, stopping_lines, oversize_line};

@@ -1,4 +1,6 @@
 // Document 02, §4: "take C(n, k) from a stored triangle of 1,891 numbers, rows 0 to 60".
+#![tactic(auto)]
+
 mod entries;
 
 ghost use Rattle.std.specs.Prelude.{◌≡◌, ◌≤◌};

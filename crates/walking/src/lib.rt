@@ -1,4 +1,6 @@
 // Documents 01 and 02: the walk of a dump of either kind into rows of numbers.
+#![tactic(auto)]
+
 ghost use Rattle.std.specs.Prelude.{◌≡◌, [], ◌∷◌, ◌++◌, ◌+◌, ◌≤◌, length, take};
 ghost use Rattle.code.specs.declared.Kind.TheVariants.{Old, New};
 ghost use Rattle.code.specs.Calls.{read_fields};

@@ -1,4 +1,6 @@
 // Writing one field: document 01, "Writing", with the refusals in the table's order.
+#![tactic(auto)]
+
 ghost use Rattle.std.specs.Prelude.{◌≡◌, false, List, ℕ, suc, ◌+◌, ◌-◌, ◌^◌, ◌<◌, ◌≤◌, length, get_or};
 ghost use Rattle.code.specs.Count.{fewer};
 ghost use Rattle.code.specs.Code.{pattern};

@@ -1,0 +1,20 @@
+-- `hextext::export::hex_digit` meets its contract. Assumes nothing.
+use borrow.Author.Rules.{rules}
+use borrow.Author.Tests.{lt-ltb, le-ltb}
+use Rattle.code.specs.Hex.{hex_digit}
+use Rattle.hextext.proofs.export.hex_digit.Statement.{statement}
+use Rattle.hextext.proofs.export.hex_digit.Tie as tie
+
+pub hex-digit-spec : {M : Type 1} → statement M
+unfolding hex_digit
+hex-digit-spec =
+    tie.close
+    (tie.spec
+    -- add-result
+    (λ c. search rules)
+    -- returns
+    (λ c. simp (lt-ltb _ _ c.if1.true))
+    -- add-result-2
+    (λ c. search rules)
+    -- returns-2
+    (λ c. simp (le-ltb _ _ c.if1.false)))

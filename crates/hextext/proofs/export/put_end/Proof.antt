@@ -1,0 +1,22 @@
+-- `hextext::export::put_end` meets its contract. Assumes nothing.
+use mathlib.Core.Path.{refl}
+use native.Mathlib.Omega.{arith}
+use borrow.Author.Rules.{rules}
+use Rattle.code.specs.Lists.{ascii}
+use Rattle.code.specs.Hex.{end_record}
+use Rattle.hextext.proofs.export.put_end.Statement.{statement}
+use Rattle.hextext.proofs.export.put_end.Tie as tie
+
+pub put-end-spec : {M : Type 1} → statement M
+unfolding ascii end_record
+put-end-spec =
+    tie.close
+    (tie.spec
+    -- slice-aggregate-put-bytes
+    (λ c. refl)
+    -- put-bytes-requires
+    (λ c κs. omega arith)
+    -- same-length
+    (λ c. search rules)
+    -- returns
+    (λ c. c.before.before.put-bytes.ensures))

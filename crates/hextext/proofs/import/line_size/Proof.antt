@@ -1,0 +1,19 @@
+-- `hextext::import::line_size` meets its contract. Assumes nothing.
+use borrow.Author.Rules.{rules}
+use Rattle.hextext.proofs.import.line_size.Statement.{statement}
+use Rattle.hextext.proofs.import.line_size.Tie as tie
+
+pub line-size-spec : {M : Type 1} → statement M
+line-size-spec =
+    tie.close
+    (tie.spec
+    -- mul-behind
+    (λ c. search rules)
+    -- add-behind
+    (λ c. search rules)
+    -- end-at-requires
+    (λ c κs. search rules)
+    -- add-result
+    (λ c. search rules)
+    -- returns
+    (λ c. search rules))

@@ -1,0 +1,65 @@
+-- `hextext::import::sum_spelled` meets its contract. Assumes nothing.
+use mathlib.Core.Path.{◌≡◌, refl}
+use mathlib.Core.Bool.{true}
+use Prim.Native.Nat.{◌*◌, ◌-◌, ◌≤◌}
+use native.Mathlib.Omega.{arith}
+use borrow.Author.Rules.{rules}
+use lib.ListN.{take, drop}
+use lib.Seq.{take_all}
+use Rattle.code.specs.Hex.{spelled_bytes, all_spelled}
+use Rattle.code.specs.Lists.{list_sum}
+use Rattle.code.proofs.HexLines.{spelled-length, behind-colon}
+use Rattle.hextext.proofs.Outward.{sum-next}
+use Rattle.hextext.proofs.Inward.{spelled-next, not-spelled}
+use Rattle.hextext.proofs.import.sum_spelled.Statement.{statement}
+use Rattle.hextext.proofs.import.sum_spelled.Tie as tie
+
+abbrev invariant-loop : tie.invariant-loop
+invariant-loop line n sum₀ i₀ sum i =
+    let front = take i (spelled_bytes n (drop 1 line)) in
+    (i ≤ n) × (sum ≤ 255 * i) × (all_spelled front ≡ true) × (list_sum front ≡ sum)
+
+abbrev decreases-loop : tie.decreases-loop
+decreases-loop line n sum₀ i₀ sum i = n - i
+
+pub sum-spelled-spec : {M : Type 1} → statement M
+unfolding all_spelled list_sum
+sum-spelled-spec =
+    tie.close
+    (tie.spec
+    invariant-loop
+    decreases-loop
+    -- loop-holds
+    (λ c. (omega arith, omega arith, refl, refl))
+    -- byte-at-requires
+    (λ c κs. search rules)
+    -- returns
+    (λ c.
+    let a = c.before.before.before.before.before.args in
+    let i = c.before.before.before.loop.i in
+    let told = behind-colon a.line.now a.n i c.before.before.loop-test.true in
+    let all = spelled-length a.n (drop 1 a.line.now) in
+    not-spelled (spelled_bytes a.n (drop 1 a.line.now)) i (omega arith) (omega (arith, told, c.before.byte-at.ensures.0)))
+    -- add-sum
+    (λ c. search rules)
+    -- add-i
+    (λ c. search rules)
+    -- loop-less
+    (λ c. search rules)
+    -- loop-again
+    (λ c.
+    let a = c.before.before.before.before.before.args in
+    let s = c.before.before.before.loop in
+    let bytes = spelled_bytes a.n (drop 1 a.line.now) in
+    let told = behind-colon a.line.now a.n s.i c.before.before.loop-test.true in
+    let all = spelled-length a.n (drop 1 a.line.now) in
+    let byte = c.before.byte-at.ensures.0 in
+    let sum = sum-next bytes s.i (omega arith) in
+    (omega arith, omega arith, spelled-next bytes s.i (omega arith) s.invariant.2 (omega arith), omega arith))
+    -- returns-2
+    (λ c.
+    let a = c.before.before.before.args in
+    let s = c.before.loop in
+    let all = spelled-length a.n (drop 1 a.line.now) in
+    let whole = take_all s.i (spelled_bytes a.n (drop 1 a.line.now)) (omega arith) in
+    (rw whole at s.invariant.2, rw whole at s.invariant.3)))
