@@ -12,8 +12,8 @@ invariant-loop buffer₀ out₀ turns₀ s₀ buffer out turns s = InBuffer s.wi
 abbrev decreases-loop : tie.decreases-loop
 decreases-loop buffer₀ out₀ turns₀ s₀ buffer out turns s = turns
 
-pub answer-all-spec : {M : Type 1} → statement M
-answer-all-spec =
+pub answer_all_spec : {M : Type 1} → statement M
+answer_all_spec =
     tie.close
     (tie.spec
     invariant-loop

@@ -6,8 +6,8 @@ use borrow.Author.Rules.{rules}
 use Rattle.binary.proofs.low_ones.Statement.{statement}
 use Rattle.binary.proofs.low_ones.Tie as tie
 
-pub low-ones-spec : {M : Type 1} → statement M
-low-ones-spec =
+pub low_ones_spec : {M : Type 1} → statement M
+low_ones_spec =
     tie.close
     (tie.spec
     (λ c. search rules)

@@ -5,8 +5,8 @@ use native.Mathlib.Omega.{arith}
 use Rattle.binary.proofs.ones.Statement.{statement}
 use Rattle.binary.proofs.ones.Tie as tie
 
-pub ones-spec : {M : Type 1} → statement M
-ones-spec =
+pub ones_spec : {M : Type 1} → statement M
+ones_spec =
     tie.close
     (tie.spec
     -- cast-result

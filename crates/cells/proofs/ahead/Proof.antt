@@ -8,8 +8,8 @@ use Rattle.cells.proofs.ahead.Tie as tie
 returns : tie.Need-returns
 returns c = rw c.before.before.before.if1.true (from_start _ _ _ _ c.before.«start_of_lem».ensures c.eight.ensures)
 
-pub ahead-spec : {M : Type 1} → statement M
-ahead-spec =
+pub ahead_spec : {M : Type 1} → statement M
+ahead_spec =
     tie.close
     (tie.spec
     (λ c κs. search rules)

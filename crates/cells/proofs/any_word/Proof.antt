@@ -6,8 +6,8 @@ use Rattle.cells.proofs.Values.{first-bytes}
 use Rattle.cells.proofs.any_word.Statement.{statement}
 use Rattle.cells.proofs.any_word.Tie as tie
 
-pub any-word-spec : {M : Type 1} → statement M
-any-word-spec =
+pub any_word_spec : {M : Type 1} → statement M
+any_word_spec =
     tie.close
     (tie.spec
     (λ c κs. search rules)

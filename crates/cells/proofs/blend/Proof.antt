@@ -4,8 +4,8 @@ use borrow.Author.Rules.{rules}
 use Rattle.cells.proofs.blend.Statement.{statement}
 use Rattle.cells.proofs.blend.Tie as tie
 
-pub blend-spec : {M : Type 1} → statement M
-blend-spec =
+pub blend_spec : {M : Type 1} → statement M
+blend_spec =
     tie.close
     (tie.spec
     (λ c. search rules)

@@ -5,8 +5,8 @@ use Rattle.cells.proofs.Values.{joined}
 use Rattle.cells.proofs.eight.Statement.{statement}
 use Rattle.cells.proofs.eight.Tie as tie
 
-pub eight-spec : {M : Type 1} → statement M
-eight-spec =
+pub eight_spec : {M : Type 1} → statement M
+eight_spec =
     tie.close
     (tie.spec
     (λ c κs. search rules)

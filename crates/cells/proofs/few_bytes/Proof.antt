@@ -30,8 +30,8 @@ returns c =
     let E = c.before.loop.invariant.1 in
     reading-all _ _ c.before.loop.invariant.2 _ (omega arith) E.some E.near E.last
 
-pub few-bytes-spec : {M : Type 1} → statement M
-few-bytes-spec =
+pub few_bytes_spec : {M : Type 1} → statement M
+few_bytes_spec =
     tie.close
     (tie.spec
     invariant-loop

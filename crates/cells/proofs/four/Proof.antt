@@ -11,8 +11,8 @@ returns c = quad _ _ _ _ _ _ (λ i l. (c.before.before.before.before.before.befo
     c.before.before.before.before.before.before.wide.ensures.0
     c.before.before.before.before.wide2.ensures.0 c.before.before.wide3.ensures.0 c.wide4.ensures.0
 
-pub four-spec : {M : Type 1} → statement M
-four-spec =
+pub four_spec : {M : Type 1} → statement M
+four_spec =
     tie.close
     (tie.spec
     (λ c. search rules)

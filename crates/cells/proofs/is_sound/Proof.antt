@@ -31,8 +31,8 @@ returns-3 c =
     let e : c.«last-bits».result ≡ value (wit o bs) w (8 * length bs - w) = left_over o bs w _ (omega arith) (omega arith) (omega arith) (cc) in
     rw (eq-eqb _ _ c.before.before.before.before.before.if1.false, e)
 
-pub is-sound-spec : {M : Type 1} → statement M
-is-sound-spec =
+pub is_sound_spec : {M : Type 1} → statement M
+is_sound_spec =
     tie.close
     (tie.spec
     (λ c. record { fits = omega (arith, mul-le-mul c.before.requires.0 c.before.requires.1) })

@@ -6,8 +6,8 @@ use Rattle.binary.proofs.Shifts.{power-shifted}
 use Rattle.cells.proofs.last_bits.Statement.{statement}
 use Rattle.cells.proofs.last_bits.Tie as tie
 
-pub last-bits-spec : {M : Type 1} → statement M
-last-bits-spec =
+pub last_bits_spec : {M : Type 1} → statement M
+last_bits_spec =
     tie.close
     (tie.spec
     (λ c. search rules)

@@ -8,8 +8,8 @@ use Rattle.cells.proofs.mirror.Tie as tie
 returns : tie.Need-returns
 returns c = rw (mirrored c.args.x) (search rules, octet-lt 1 c.args.x)
 
-pub mirror-spec : {M : Type 1} → statement M
-mirror-spec =
+pub mirror_spec : {M : Type 1} → statement M
+mirror_spec =
     tie.close
     (tie.spec
     (λ c. search rules)

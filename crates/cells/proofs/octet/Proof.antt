@@ -6,8 +6,8 @@ use Rattle.cells.proofs.Octets.{octet-high, octet-low}
 use Rattle.cells.proofs.octet.Statement.{statement}
 use Rattle.cells.proofs.octet.Tie as tie
 
-pub octet-spec : {M : Type 1} → statement M
-octet-spec =
+pub octet_spec : {M : Type 1} → statement M
+octet_spec =
     tie.close
     (tie.spec
     (λ c κs. search rules)

@@ -4,8 +4,8 @@ use borrow.Author.Rules.{rules}
 use Rattle.cells.proofs.put_ahead.Statement.{statement}
 use Rattle.cells.proofs.put_ahead.Tie as tie
 
-pub put-ahead-spec : {M : Type 1} → statement M
-put-ahead-spec =
+pub put_ahead_spec : {M : Type 1} → statement M
+put_ahead_spec =
     tie.close
     (tie.spec
     (λ c. search rules)

@@ -8,8 +8,8 @@ use Rattle.cells.proofs.put_eight.Tie as tie
 returns : tie.Need-returns
 returns c = put-bytes _ 4 4 _ c.before.before.before.before.before.before.«put_four».ensures c.before.before.«put-four2».ensures
 
-pub put-eight-spec : {M : Type 1} → statement M
-put-eight-spec =
+pub put_eight_spec : {M : Type 1} → statement M
+put_eight_spec =
     tie.close
     (tie.spec
     (λ c κs. search rules)

@@ -8,8 +8,8 @@ use Rattle.cells.proofs.put_four.Tie as tie
 returns : tie.Need-returns
 returns c = put-bytes _ 2 2 _ c.before.before.before.before.before.before.«put_two».ensures c.before.before.«put-two2».ensures
 
-pub put-four-spec : {M : Type 1} → statement M
-put-four-spec =
+pub put_four_spec : {M : Type 1} → statement M
+put_four_spec =
     tie.close
     (tie.spec
     (λ c κs. search rules)

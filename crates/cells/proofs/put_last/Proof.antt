@@ -15,8 +15,8 @@ returns c =
     c.before.before.before.before.eight.ensures
     c.before.before.«put-eight».ensures
 
-pub put-last-spec : {M : Type 1} → statement M
-put-last-spec =
+pub put_last_spec : {M : Type 1} → statement M
+put_last_spec =
     tie.close
     (tie.spec
     (λ c. search rules)

@@ -5,8 +5,8 @@ use Rattle.cells.proofs.Putting.{put_byte}
 use Rattle.cells.proofs.put_one.Statement.{statement}
 use Rattle.cells.proofs.put_one.Tie as tie
 
-pub put-one-spec : {M : Type 1} → statement M
-put-one-spec =
+pub put_one_spec : {M : Type 1} → statement M
+put_one_spec =
     tie.close
     (tie.spec
     (λ c κs. search rules)

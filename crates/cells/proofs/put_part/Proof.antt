@@ -37,8 +37,8 @@ returns c =
     let first = putting-first a.ranges.x.fits c.before.before.before.before.«put_one».ensures in
     putting-all _ _ _ _ _ a.ranges.x.fits a.requires.none (c.before.loop.invariant.3 _ first) (rw e E)
 
-pub put-part-spec : {M : Type 1} → statement M
-put-part-spec =
+pub put_part_spec : {M : Type 1} → statement M
+put_part_spec =
     tie.close
     (tie.spec
     invariant-loop

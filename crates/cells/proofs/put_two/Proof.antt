@@ -8,8 +8,8 @@ use Rattle.cells.proofs.put_two.Tie as tie
 returns : tie.Need-returns
 returns c = put-bytes _ 1 1 _ c.before.before.before.before.before.before.«put_one».ensures c.before.before.«put-one2».ensures
 
-pub put-two-spec : {M : Type 1} → statement M
-put-two-spec =
+pub put_two_spec : {M : Type 1} → statement M
+put_two_spec =
     tie.close
     (tie.spec
     (λ c κs. search rules)

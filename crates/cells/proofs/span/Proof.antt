@@ -5,9 +5,9 @@ use Rattle.words.specs.Words.{word_bytes}
 use Rattle.cells.proofs.span.Statement.{statement}
 use Rattle.cells.proofs.span.Tie as tie
 
-pub span-spec : {M : Type 1} → statement M
+pub span_spec : {M : Type 1} → statement M
 unfolding word_bytes
-span-spec =
+span_spec =
     tie.close
     (tie.spec
     -- returns

@@ -11,8 +11,8 @@ returns c =
     swap-all _ _ _ _ _ _ a.ranges.w.fits c.before.before.before.before.before.eight.ensures c.before.before.before.«put-eight».ensures
     c.turns.ensures
 
-pub swap-eight-spec : {M : Type 1} → statement M
-swap-eight-spec =
+pub swap_eight_spec : {M : Type 1} → statement M
+swap_eight_spec =
     tie.close
     (tie.spec
     (λ c κs. search rules)

@@ -12,8 +12,8 @@ returns c =
     swap_is _ _ _ _ _ _ _ _ a.requires.0 old _ _ c.before.before.before.before.before.blend.ensures
     c.before.before.before.«put-eight».ensures c.turns.ensures
 
-pub swap-fewer-spec : {M : Type 1} → statement M
-swap-fewer-spec =
+pub swap_fewer_spec : {M : Type 1} → statement M
+swap_fewer_spec =
     tie.close
     (tie.spec
     (λ c κs. search rules)

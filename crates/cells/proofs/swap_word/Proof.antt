@@ -8,8 +8,8 @@ returns : tie.Need-returns
 returns c = rw c.before.before.before.before.if2.true
     (rw c.before.before.before.before.before.if1.true c.before.before.«swap_eight».ensures)
 
-pub swap-word-spec : {M : Type 1} → statement M
-swap-word-spec =
+pub swap_word_spec : {M : Type 1} → statement M
+swap_word_spec =
     tie.close
     (tie.spec
     (λ c κs. search rules)

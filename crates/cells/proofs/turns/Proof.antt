@@ -6,8 +6,8 @@ use Rattle.cells.proofs.Counting.{or_above}
 use Rattle.cells.proofs.turns.Statement.{statement}
 use Rattle.cells.proofs.turns.Tie as tie
 
-pub turns-spec : {M : Type 1} → statement M
-turns-spec =
+pub turns_spec : {M : Type 1} → statement M
+turns_spec =
     tie.close
     (tie.spec
     (λ c. omega (arith, or_above c.args.new c.args.old))

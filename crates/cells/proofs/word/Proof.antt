@@ -10,8 +10,8 @@ returns-2 : tie.Need-returns-2
 returns-2 c = rw c.before.before.before.if1.true (first-bytes _ _ _ c.before.before.before.before.before.args.size (omega arith)
     c.eight2.ensures)
 
-pub word-spec : {M : Type 1} → statement M
-word-spec =
+pub word_spec : {M : Type 1} → statement M
+word_spec =
     tie.close
     (tie.spec
     (λ c κs. search rules)

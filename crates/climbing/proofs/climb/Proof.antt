@@ -14,8 +14,8 @@ invariant-loop b low need cut s₀ d₀ s d = Climbed b low d s.all s.more s.sca
 abbrev decreases-loop : tie.decreases-loop
 decreases-loop b low need cut s₀ d₀ s d = 16 - d
 
-pub climb-spec : {M : Type 1} → statement M
-climb-spec =
+pub climb_spec : {M : Type 1} → statement M
+climb_spec =
     tie.close
     (tie.spec
     invariant-loop

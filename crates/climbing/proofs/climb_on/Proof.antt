@@ -13,8 +13,8 @@ invariant-loop b low need cut from s₀ d₀ s d = Climbed b low d s.all s.more 
 abbrev decreases-loop : tie.decreases-loop
 decreases-loop b low need cut from s₀ d₀ s d = cap - d
 
-pub climb-on-spec : {M : Type 1} → statement M
-climb-on-spec =
+pub climb_on_spec : {M : Type 1} → statement M
+climb_on_spec =
     tie.close
     (tie.spec
     invariant-loop

@@ -12,8 +12,8 @@ invariant-loop e v square x₀ p₀ x p = Last e v x p
 abbrev decreases-loop : tie.decreases-loop
 decreases-loop e v square x₀ p₀ x p = v + 1 - p
 
-pub last-count-spec : {M : Type 1} → statement M
-last-count-spec =
+pub last_count_spec : {M : Type 1} → statement M
+last_count_spec =
     tie.close
     (tie.spec
     invariant-loop

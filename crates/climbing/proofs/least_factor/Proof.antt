@@ -6,8 +6,8 @@ use borrow.Author.Rules.{rules}
 use Rattle.climbing.proofs.least_factor.Statement.{statement}
 use Rattle.climbing.proofs.least_factor.Tie as tie
 
-pub least-factor-spec : {M : Type 1} → statement M
-least-factor-spec =
+pub least_factor_spec : {M : Type 1} → statement M
+least_factor_spec =
     tie.close
     (tie.spec
     -- sub-result

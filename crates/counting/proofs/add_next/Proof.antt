@@ -6,8 +6,8 @@ use Rattle.counting.proofs.Laws.{valued-room, valued-far}
 use Rattle.counting.proofs.add_next.Statement.{statement}
 use Rattle.counting.proofs.add_next.Tie as tie
 
-pub add-next-spec : {M : Type 1} → statement M
-add-next-spec =
+pub add_next_spec : {M : Type 1} → statement M
+add_next_spec =
     tie.close
     (tie.spec
     -- one-more-requires

@@ -7,8 +7,8 @@ use Rattle.counting.proofs.Laws.{choose-above, symmetry}
 use Rattle.counting.proofs.binomial.Statement.{statement}
 use Rattle.counting.proofs.binomial.Tie as tie
 
-pub binomial-spec : {M : Type 1} → statement M
-binomial-spec =
+pub binomial_spec : {M : Type 1} → statement M
+binomial_spec =
     tie.close
     (tie.spec
     -- look-up-requires

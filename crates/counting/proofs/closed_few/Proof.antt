@@ -13,8 +13,8 @@ returns : tie.Need-returns
 unfolding choose
 returns c = (rw c.match.keys1, omega arith)
 
-pub closed-few-spec : {M : Type 1} → statement M
-closed-few-spec =
+pub closed_few_spec : {M : Type 1} → statement M
+closed_few_spec =
     tie.close
     (tie.spec
     -- pair-requires

@@ -26,8 +26,8 @@ eight : (c : tie.After-four2) → c.before.before.four.result * c.four2.result <
 eight c =
     omega (arith, mul-le-mul {n₁ = c.before.before.four.result} {m₁ = c.four2.result} {n₂ = 2 ^ 32 - 1} {m₂ = 2 ^ 32 - 1} (omega arith) (omega arith))
 
-pub closed-many-spec : {M : Type 1} → statement M
-closed-many-spec =
+pub closed_many_spec : {M : Type 1} → statement M
+closed_many_spec =
     tie.close
     (tie.spec
     -- four-requires

@@ -18,8 +18,8 @@ decreases-loop b first s k term p₀ j₀ p j = 16 - j
 opened : (c : tie.Else2 invariant-loop decreases-loop) → let a = c.before.before.args in a.s * a.b ≤ 3840
 opened c = let a = c.before.before.args in mul-le-mul {n₁ = a.s} {m₁ = a.b} {n₂ = 256} {m₂ = 15} (omega arith) (omega arith)
 
-pub fewer-spec : {M : Type 1} → statement M
-fewer-spec =
+pub fewer_spec : {M : Type 1} → statement M
+fewer_spec =
     tie.close
     (tie.spec
     invariant-loop

@@ -13,8 +13,8 @@ invariant-loop b first s k from p₀ j₀ p j = SumSoFar b s first k p.term p.su
 abbrev decreases-loop : tie.decreases-loop
 decreases-loop b first s k from p₀ j₀ p j = k - j
 
-pub fewer-on-spec : {M : Type 1} → statement M
-fewer-on-spec =
+pub fewer_on_spec : {M : Type 1} → statement M
+fewer_on_spec =
     tie.close
     (tie.spec
     invariant-loop

@@ -6,8 +6,8 @@ use Rattle.counting.proofs.Laws.{falling-add}
 use Rattle.counting.proofs.four.Statement.{statement}
 use Rattle.counting.proofs.four.Tie as tie
 
-pub four-spec : {M : Type 1} → statement M
-four-spec =
+pub four_spec : {M : Type 1} → statement M
+four_spec =
     tie.close
     (tie.spec
     -- pair-requires

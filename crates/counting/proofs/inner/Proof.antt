@@ -5,8 +5,8 @@ use Rattle.counting.proofs.Laws.{inner_room, inner-is}
 use Rattle.counting.proofs.inner.Statement.{statement}
 use Rattle.counting.proofs.inner.Tie as tie
 
-pub inner-spec : {M : Type 1} → statement M
-inner-spec =
+pub inner_spec : {M : Type 1} → statement M
+inner_spec =
     tie.close
     (tie.spec
     -- sub-if1

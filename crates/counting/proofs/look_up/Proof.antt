@@ -5,8 +5,8 @@ use Rattle.counting.proofs.Laws.{choose-above}
 use Rattle.counting.proofs.look_up.Statement.{statement}
 use Rattle.counting.proofs.look_up.Tie as tie
 
-pub look-up-spec : {M : Type 1} → statement M
-look-up-spec =
+pub look_up_spec : {M : Type 1} → statement M
+look_up_spec =
     tie.close
     (tie.spec
     -- returns

@@ -5,8 +5,8 @@ use Rattle.counting.proofs.Laws.{valued-room, valued-far}
 use Rattle.counting.proofs.next_term.Statement.{statement}
 use Rattle.counting.proofs.next_term.Tie as tie
 
-pub next-term-spec : {M : Type 1} → statement M
-next-term-spec =
+pub next_term_spec : {M : Type 1} → statement M
+next_term_spec =
     tie.close
     (tie.spec
     -- one-more-requires

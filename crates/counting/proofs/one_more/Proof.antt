@@ -6,8 +6,8 @@ use Rattle.counting.proofs.Laws.{term-room, term-next}
 use Rattle.counting.proofs.one_more.Statement.{statement}
 use Rattle.counting.proofs.one_more.Tie as tie
 
-pub one-more-spec : {M : Type 1} → statement M
-one-more-spec =
+pub one_more_spec : {M : Type 1} → statement M
+one_more_spec =
     tie.close
     (tie.spec
     -- sub-result

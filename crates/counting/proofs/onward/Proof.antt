@@ -16,8 +16,8 @@ invariant-loop n e c j c₀ j₀ c' j' = (0 < j') × (j' ≤ e) × (c' ≡ choos
 abbrev decreases-loop : tie.decreases-loop
 decreases-loop n e c j c₀ j₀ c' j' = e - j'
 
-pub onward-spec : {M : Type 1} → statement M
-onward-spec =
+pub onward_spec : {M : Type 1} → statement M
+onward_spec =
     tie.close
     (tie.spec
     invariant-loop

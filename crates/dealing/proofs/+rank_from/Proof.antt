@@ -24,8 +24,8 @@ abbrev rank-from-below : ℕ → In 1 rank-from-kinds.ps
 rank-from-below t =
     and 1 rank-from-kinds.ps (falls 1 rank-from-kinds.ps ◌<◌ μ-rank-from t) rank-from.Pre
 
-pub +rank-from-spec : {M : Type 1} → statement M
-+rank-from-spec = close μ-rank-from λ t. rank-from-lts.spec (
+pub +rank_from_spec : {M : Type 1} → statement M
++rank_from_spec = close μ-rank-from λ t. rank-from-lts.spec (
   wide-reads.Asked,
   wide-reads.Learnt,
   binomial-reads.Asked,

@@ -11,8 +11,8 @@ use Rattle.dealing.proofs.deal.Tie as tie
 few : (c : tie.After-pass-fewer) → c.pass-fewer.result.k ≤ pattern_most
 few c = let p = c.before.before.requires.1 in split-few c.pass-fewer.ensures.0 p.1 p.3 p.4
 
-pub deal-spec : {M : Type 1} → statement M
-deal-spec =
+pub deal_spec : {M : Type 1} → statement M
+deal_spec =
     tie.close
     (tie.spec
     -- add-if1

@@ -12,8 +12,8 @@ invariant-loop label fit left r label₀ fit₀ label' fit' = (label' ≤ label)
 abbrev decreases-loop : tie.decreases-loop
 decreases-loop label fit left r label₀ fit₀ label' fit' = label'
 
-pub leap-spec : {M : Type 1} → statement M
-leap-spec =
+pub leap_spec : {M : Type 1} → statement M
+leap_spec =
     tie.close
     (tie.spec
     invariant-loop

@@ -6,8 +6,8 @@ use Rattle.dealing.proofs.Telling.{few, number-over, number-sum}
 use Rattle.dealing.proofs.number.Statement.{statement}
 use Rattle.dealing.proofs.number.Tie as tie
 
-pub number-spec : {M : Type 1} → statement M
-number-spec =
+pub number_spec : {M : Type 1} → statement M
+number_spec =
     tie.close
     (tie.spec
     -- fewer-requires

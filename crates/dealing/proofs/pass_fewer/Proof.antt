@@ -17,8 +17,8 @@ decreases-loop s b fewest n p₀ p = 16 - p.k
 opened : (c : tie.Start invariant-loop decreases-loop) → c.args.s * c.args.b ≤ 3840
 opened c = let d = c.requires.0 in mul-le-mul {n₁ = c.args.s} {m₁ = c.args.b} {n₂ = 256} {m₂ = 15} d.places d.few
 
-pub pass-fewer-spec : {M : Type 1} → statement M
-pass-fewer-spec =
+pub pass_fewer_spec : {M : Type 1} → statement M
+pass_fewer_spec =
     tie.close
     (tie.spec
     invariant-loop

@@ -12,8 +12,8 @@ invariant-loop s b fewest n p₀ p = Splitting b fewest s n p.k p.power p.term p
 abbrev decreases-loop : tie.decreases-loop
 decreases-loop s b fewest n p₀ p = s - p.k
 
-pub pass-on-spec : {M : Type 1} → statement M
-pass-on-spec =
+pub pass_on_spec : {M : Type 1} → statement M
+pass_on_spec =
     tie.close
     (tie.spec
     invariant-loop

@@ -9,8 +9,8 @@ use Rattle.dealing.proofs.pass_one.Tie as tie
 passed : (c : tie.Start) → let a = c.args in Passed a.b a.s a.p.k a.p.power a.p.term
 passed c = let d = c.requires.0 in pass c.requires.1 d.few d.within d.small c.requires.2
 
-pub pass-one-spec : {M : Type 1} → statement M
-pass-one-spec =
+pub pass_one_spec : {M : Type 1} → statement M
+pass_one_spec =
     tie.close
     (tie.spec
     -- add-t6

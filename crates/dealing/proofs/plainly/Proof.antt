@@ -17,8 +17,8 @@ invariant-loop values₀ s e x square part x₀ i₀ values x' i = (length value
 abbrev decreases-loop : tie.decreases-loop
 decreases-loop values₀ s e x square part x₀ i₀ values x' i = i
 
-pub plainly-spec : {M : Type 1} → statement M
-plainly-spec =
+pub plainly_spec : {M : Type 1} → statement M
+plainly_spec =
     tie.close
     (tie.spec
     invariant-loop

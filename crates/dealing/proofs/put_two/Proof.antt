@@ -18,8 +18,8 @@ quotient c =
     rw c.requires.4 (by_part 65536 a.e a.z (omega arith)
     (omega (arith, mul-le-mul {n₁ = a.z} {m₁ = a.e} {n₂ = 225} {m₂ = 15} (omega arith) (omega arith))))
 
-pub put-two-spec : {M : Type 1} → statement M
-put-two-spec =
+pub put_two_spec : {M : Type 1} → statement M
+put_two_spec =
     tie.close
     (tie.spec
     -- mul-high

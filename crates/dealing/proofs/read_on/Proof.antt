@@ -35,8 +35,8 @@ turned c =
     read-two a.b a.k a.d a.values.now (omega arith) s.loop.i s.loop.x _ s.loop.invariant.1 c.before.loop-test.true
     (ap (λ (y : ℕ). s.loop.x * (a.b * a.b) + y) c.two.ensures.0)
 
-pub read-on-spec : {M : Type 1} → statement M
-read-on-spec =
+pub read_on_spec : {M : Type 1} → statement M
+read_on_spec =
     tie.close
     (tie.spec
     invariant-loop

@@ -18,8 +18,8 @@ decreases-loop s k label₀ fit₀ label fit = label
 some : (c : tie.In-loop invariant-loop decreases-loop) → 0 < c.before.loop.label
 some c = omega (arith, enough c.before.loop.label c.before.before.before.args.k 0 (omega arith))
 
-pub settle-spec : {M : Type 1} → statement M
-settle-spec =
+pub settle_spec : {M : Type 1} → statement M
+settle_spec =
     tie.close
     (tie.spec
     invariant-loop

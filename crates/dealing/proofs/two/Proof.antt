@@ -9,8 +9,8 @@ use Rattle.dealing.proofs.two.Tie as tie
 first : (c : tie.After-wide) → c.wide.result * c.before.before.args.b ≤ 3825
 first c = mul-le-mul {n₂ = 255} {m₂ = 15} (omega arith) (omega arith)
 
-pub two-spec : {M : Type 1} → statement M
-two-spec =
+pub two_spec : {M : Type 1} → statement M
+two_spec =
     tie.close
     (tie.spec
     -- element-copy-out-wide

@@ -28,8 +28,8 @@ decreases-loop labels₀ s k r label₀ fit₀ left₀ r₀ at₀ labels label f
 some : (c : tie.At-loop2 invariant-loop2 decreases-loop2 invariant-loop decreases-loop) → c.before.before.before.loop.left ≤ suc c.loop2.label
 some c = enough _ _ _ c.loop2.invariant.1.high
 
-pub unrank-spec : {M : Type 1} → statement M
-unrank-spec =
+pub unrank_spec : {M : Type 1} → statement M
+unrank_spec =
     tie.close
     (tie.spec
     invariant-loop2

@@ -6,8 +6,8 @@ use Rattle.dump.proofs.Walking.{ready-ended, ready-inside}
 use Rattle.dump.proofs.locate.Statement.{statement}
 use Rattle.dump.proofs.locate.Tie as tie
 
-pub locate-spec : {M : Type 1} → statement M
-locate-spec =
+pub locate_spec : {M : Type 1} → statement M
+locate_spec =
     tie.close
     (tie.spec
     -- returns

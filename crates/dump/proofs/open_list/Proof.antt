@@ -4,8 +4,8 @@ use Rattle.dump.proofs.Walking.{list-opens, list-broken}
 use Rattle.dump.proofs.open_list.Statement.{statement}
 use Rattle.dump.proofs.open_list.Tie as tie
 
-pub open-list-spec : {M : Type 1} → statement M
-open-list-spec =
+pub open_list_spec : {M : Type 1} → statement M
+open_list_spec =
     tie.close
     (tie.spec
     -- read-list-requires

@@ -4,8 +4,8 @@ use Rattle.dump.proofs.Walking.{new-opened}
 use Rattle.dump.proofs.open_new.Statement.{statement}
 use Rattle.dump.proofs.open_new.Tie as tie
 
-pub open-new-spec : {M : Type 1} → statement M
-open-new-spec =
+pub open_new_spec : {M : Type 1} → statement M
+open_new_spec =
     tie.close
     (tie.spec
     -- open-requires

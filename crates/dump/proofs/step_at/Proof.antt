@@ -6,8 +6,8 @@ use Rattle.dump.proofs.Walking.{opened-ready, opened-few, barred-reply}
 use Rattle.dump.proofs.step_at.Statement.{statement}
 use Rattle.dump.proofs.step_at.Tie as tie
 
-pub step-at-spec : {M : Type 1} → statement M
-step-at-spec =
+pub step_at_spec : {M : Type 1} → statement M
+step_at_spec =
     tie.close
     (tie.spec
     -- open-requires

@@ -7,9 +7,9 @@ use Rattle.dump.proofs.Walking.{located-reply}
 use Rattle.dump.proofs.step_in.Statement.{statement}
 use Rattle.dump.proofs.step_in.Tie as tie
 
-pub step-in-spec : {M : Type 1} → statement M
+pub step_in_spec : {M : Type 1} → statement M
 unfolding step_values
-step-in-spec =
+step_in_spec =
     tie.close
     (tie.spec
     -- locate-requires

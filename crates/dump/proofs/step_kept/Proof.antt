@@ -6,9 +6,9 @@ use Rattle.dump.proofs.Walking.{located-reply}
 use Rattle.dump.proofs.step_kept.Statement.{statement}
 use Rattle.dump.proofs.step_kept.Tie as tie
 
-pub step-kept-spec : {M : Type 1} → statement M
+pub step_kept_spec : {M : Type 1} → statement M
 unfolding step_values
-step-kept-spec =
+step_kept_spec =
     tie.close
     (tie.spec
     -- locate-requires

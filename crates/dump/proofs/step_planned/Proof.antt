@@ -4,8 +4,8 @@ use Rattle.dump.proofs.Keeping.{record-told}
 use Rattle.dump.proofs.step_planned.Statement.{statement}
 use Rattle.dump.proofs.step_planned.Tie as tie
 
-pub step-planned-spec : {M : Type 1} → statement M
-step-planned-spec =
+pub step_planned_spec : {M : Type 1} → statement M
+step_planned_spec =
     tie.close
     (tie.spec
     (λ c κs. search rules)

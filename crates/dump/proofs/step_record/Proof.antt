@@ -5,8 +5,8 @@ use Rattle.records.specs.Head.{said_shape}
 use Rattle.dump.proofs.step_record.Statement.{statement}
 use Rattle.dump.proofs.step_record.Tie as tie
 
-pub step-record-spec : {M : Type 1} → statement M
-step-record-spec =
+pub step_record_spec : {M : Type 1} → statement M
+step_record_spec =
     tie.close
     (tie.spec
     -- renew-requires

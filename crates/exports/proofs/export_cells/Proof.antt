@@ -56,8 +56,8 @@ refused-here c =
     let whole = sym (sound-here s) ∙ not-false s.is-sound.result c.before.before.if2.false in
     export-crowded _ _ _ _ G.ok whole (omega (arith, length-here c.before))
 
-pub export-cells-spec : {M : Type 1} → statement M
-export-cells-spec =
+pub export_cells_spec : {M : Type 1} → statement M
+export_cells_spec =
     tie.close
     (tie.spec
     (λ c κs. search rules)

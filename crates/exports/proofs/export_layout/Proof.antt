@@ -49,8 +49,8 @@ long-here c =
     let parts = ap length (numbers-parts s (few-here c.before.before.before.before.before)) in
     omega (arith, parts, length-append front ranges, c.before.before.before.numbers-length.ensures, rw sub-zero at c.numbers-length2.ensures)
 
-pub export-layout-spec : {M : Type 1} → statement M
-export-layout-spec =
+pub export_layout_spec : {M : Type 1} → statement M
+export_layout_spec =
     tie.close
     (tie.spec
     (λ c κs. search rules)

@@ -7,8 +7,8 @@ use Rattle.code.proofs.ExportCall.{export-late}
 use Rattle.exports.proofs.export_old.Statement.{statement}
 use Rattle.exports.proofs.export_old.Tie as tie
 
-pub export-old-spec : {M : Type 1} → statement M
-export-old-spec =
+pub export_old_spec : {M : Type 1} → statement M
+export_old_spec =
     tie.close
     (tie.spec
     -- returns

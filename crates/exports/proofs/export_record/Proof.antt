@@ -8,8 +8,8 @@ use Rattle.code.proofs.ExportCall.{export-late, export-off-list}
 use Rattle.exports.proofs.export_record.Statement.{statement}
 use Rattle.exports.proofs.export_record.Tie as tie
 
-pub export-record-spec : {M : Type 1} → statement M
-export-record-spec =
+pub export_record_spec : {M : Type 1} → statement M
+export_record_spec =
     tie.close
     (tie.spec
     -- returns

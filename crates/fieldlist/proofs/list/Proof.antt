@@ -6,8 +6,8 @@ use Rattle.dump.proofs.Walking.{opened-ready, opened-few, opened-start, opened-b
 use Rattle.fieldlist.proofs.list.Statement.{statement}
 use Rattle.fieldlist.proofs.list.Tie as tie
 
-pub list-spec : {M : Type 1} → statement M
-list-spec =
+pub list_spec : {M : Type 1} → statement M
+list_spec =
     tie.close
     (tie.spec
     -- open-requires

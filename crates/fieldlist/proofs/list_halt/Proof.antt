@@ -10,8 +10,8 @@ use Rattle.fieldlist.proofs.list_halt.Tie as tie
 room-here : (c : tie.After-put-halt-lines) → c.put-halt-lines.result ≤ 84
 room-here c = omega (arith, c.put-halt-lines.ensures.few)
 
-pub list-halt-spec : {M : Type 1} → statement M
-list-halt-spec =
+pub list_halt_spec : {M : Type 1} → statement M
+list_halt_spec =
     tie.close
     (tie.spec
     -- slice-aggregate-put-halt-lines

@@ -22,8 +22,8 @@ invariant-loop dump kind places start out₀ s₀ count₀ out s count =
 abbrev decreases-loop : tie.decreases-loop
 decreases-loop dump kind places start out₀ s₀ count₀ out s count = dump_most - s.next
 
-pub list-records-spec : {M : Type 1} → statement M
-list-records-spec =
+pub list_records_spec : {M : Type 1} → statement M
+list_records_spec =
     tie.close
     (tie.spec
     invariant-loop

@@ -33,9 +33,9 @@ again c =
       omega (arith, d.put-decimal.ensures.few, b.put_byte.ensures.ends, l.loop.invariant.3),
     )
 
-pub put-entries-spec : {M : Type 1} → statement M
+pub put_entries_spec : {M : Type 1} → statement M
 unfolding entries_text
-put-entries-spec =
+put_entries_spec =
     tie.close
     (tie.spec
     invariant-loop

@@ -6,9 +6,9 @@ use Rattle.handbook.specs.Rows.{row_text}
 use Rattle.handbook.proofs.put_row.Statement.{statement}
 use Rattle.handbook.proofs.put_row.Tie as tie
 
-pub put-row-spec : {M : Type 1} → statement M
+pub put_row_spec : {M : Type 1} → statement M
 unfolding row_text
-put-row-spec =
+put_row_spec =
     tie.close
     (tie.spec
     (λ c κs. search rules)

@@ -10,8 +10,8 @@ use Rattle.hextext.proofs.Outward.{exports}
 use Rattle.hextext.proofs.hex_export.Statement.{statement}
 use Rattle.hextext.proofs.hex_export.Tie as tie
 
-pub hex-export-spec : {M : Type 1} → statement M
-hex-export-spec =
+pub hex_export_spec : {M : Type 1} → statement M
+hex_export_spec =
     tie.close
     (tie.spec
     -- returns

@@ -11,8 +11,8 @@ use Rattle.hextext.proofs.hex_import.Tie as tie
 right : (c : tie.After-known-told2) → Counts c.before.before.before.before.before.before.args.text.now (Right c.before.all.given.0.0)
 right c = subst (Counts _) c.before.all.given.1 c.before.before.before.check-text.ensures
 
-pub hex-import-spec : {M : Type 1} → statement M
-hex-import-spec =
+pub hex_import_spec : {M : Type 1} → statement M
+hex_import_spec =
     tie.close
     (tie.spec
     -- check-text-requires

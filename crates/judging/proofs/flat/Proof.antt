@@ -7,9 +7,9 @@ use Rattle.judging.proofs.Verdicts.{judge-fields-refused}
 use Rattle.judging.proofs.flat.Statement.{statement}
 use Rattle.judging.proofs.flat.Tie as tie
 
-pub flat-spec : {M : Type 1} → statement M
+pub flat_spec : {M : Type 1} → statement M
 unfolding filled judge_fields
-flat-spec =
+flat_spec =
     tie.close
     (tie.spec
     (λ c. search rules)

@@ -6,9 +6,9 @@ use Rattle.judging.proofs.Verdicts.{wiped-later}
 use Rattle.judging.proofs.is_wiped.Statement.{statement}
 use Rattle.judging.proofs.is_wiped.Tie as tie
 
-pub is-wiped-spec : {M : Type 1} → statement M
+pub is_wiped_spec : {M : Type 1} → statement M
 unfolding wiped
-is-wiped-spec =
+is_wiped_spec =
     tie.close
     (tie.spec
     -- returns

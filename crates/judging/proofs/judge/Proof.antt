@@ -7,8 +7,8 @@ use Rattle.judging.proofs.Verdicts.{says, judges-no-layout}
 use Rattle.judging.proofs.judge.Statement.{statement}
 use Rattle.judging.proofs.judge.Tie as tie
 
-pub judge-spec : {M : Type 1} → statement M
-judge-spec =
+pub judge_spec : {M : Type 1} → statement M
+judge_spec =
     tie.close
     (tie.spec
     -- outline-of-requires

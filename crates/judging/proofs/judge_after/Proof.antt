@@ -16,8 +16,8 @@ right c =
     sym (sound-width a.requires.0 a.args.after.now _ (c.before.before.before.order.ensures a.args.v.now)) ∙ sym c.before.is-sound.ensures
     ∙ not-false _ c.if1.false
 
-pub judge-after-spec : {M : Type 1} → statement M
-judge-after-spec =
+pub judge_after_spec : {M : Type 1} → statement M
+judge_after_spec =
     tie.close
     (tie.spec
     -- order-requires

@@ -4,8 +4,8 @@ use borrow.Author.Tests.{eq-eqb, ne_eqb}
 use Rattle.judging.proofs.judge_blank.Statement.{statement}
 use Rattle.judging.proofs.judge_blank.Tie as tie
 
-pub judge-blank-spec : {M : Type 1} → statement M
-judge-blank-spec =
+pub judge_blank_spec : {M : Type 1} → statement M
+judge_blank_spec =
     tie.close
     (tie.spec
     -- returns

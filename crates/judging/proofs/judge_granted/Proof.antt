@@ -17,8 +17,8 @@ right c =
     sym (sound-width a.requires a.args.before.now _ (c.before.before.before.order.ensures a.args.v.now)) ∙ sym c.before.is-sound.ensures
     ∙ not-false _ c.if1.false
 
-pub judge-granted-spec : {M : Type 1} → statement M
-judge-granted-spec =
+pub judge_granted_spec : {M : Type 1} → statement M
+judge_granted_spec =
     tie.close
     (tie.spec
     -- order-requires

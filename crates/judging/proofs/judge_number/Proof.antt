@@ -8,8 +8,8 @@ use borrow.Author.Rules.{rules}
 use Rattle.judging.proofs.judge_number.Statement.{statement}
 use Rattle.judging.proofs.judge_number.Tie as tie
 
-pub judge-number-spec : {M : Type 1} → statement M
-judge-number-spec =
+pub judge_number_spec : {M : Type 1} → statement M
+judge_number_spec =
     tie.close
     (tie.spec
     -- add-if1

@@ -3,8 +3,8 @@ use borrow.Author.Rules.{rules}
 use Rattle.judging.proofs.take_due.Statement.{statement}
 use Rattle.judging.proofs.take_due.Tie as tie
 
-pub take-due-spec : {M : Type 1} → statement M
-take-due-spec =
+pub take_due_spec : {M : Type 1} → statement M
+take_due_spec =
     tie.close
     (tie.spec
     (λ c. search rules)

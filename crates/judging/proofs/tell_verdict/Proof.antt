@@ -4,8 +4,8 @@ use borrow.Author.Rules.{rules}
 use Rattle.judging.proofs.tell_verdict.Statement.{statement}
 use Rattle.judging.proofs.tell_verdict.Tie as tie
 
-pub tell-verdict-spec : {M : Type 1} → statement M
-tell-verdict-spec =
+pub tell_verdict_spec : {M : Type 1} → statement M
+tell_verdict_spec =
     tie.close
     (tie.spec
     (λ c. search rules)

@@ -8,8 +8,8 @@ use Rattle.climbing.proofs.Pascal.{least-from}
 use Rattle.layout.proofs.first_count.Statement.{statement}
 use Rattle.layout.proofs.first_count.Tie as tie
 
-pub first-count-spec : {M : Type 1} → statement M
-first-count-spec =
+pub first_count_spec : {M : Type 1} → statement M
+first_count_spec =
     tie.close
     (tie.spec
     -- range-at-requires

@@ -5,8 +5,8 @@ use Rattle.code.proofs.LayoutCall.{single-due}
 use Rattle.layout.proofs.first_goal.Statement.{statement}
 use Rattle.layout.proofs.first_goal.Tie as tie
 
-pub first-goal-spec : {M : Type 1} → statement M
-first-goal-spec =
+pub first_goal_spec : {M : Type 1} → statement M
+first_goal_spec =
     tie.close
     (tie.spec
     -- returns

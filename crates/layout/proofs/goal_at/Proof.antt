@@ -5,8 +5,8 @@ use Rattle.code.proofs.LayoutCall.{range-single}
 use Rattle.layout.proofs.goal_at.Statement.{statement}
 use Rattle.layout.proofs.goal_at.Tie as tie
 
-pub goal-at-spec : {M : Type 1} → statement M
-goal-at-spec =
+pub goal_at_spec : {M : Type 1} → statement M
+goal_at_spec =
     tie.close
     (tie.spec
     -- returns

@@ -7,8 +7,8 @@ use Rattle.layout.proofs.Reply.{refused, first-stored, first-refused}
 use Rattle.layout.proofs.grant.Statement.{statement}
 use Rattle.layout.proofs.grant.Tie as tie
 
-pub grant-spec : {M : Type 1} → statement M
-grant-spec =
+pub grant_spec : {M : Type 1} → statement M
+grant_spec =
     tie.close
     (tie.spec
     -- all-ones-requires

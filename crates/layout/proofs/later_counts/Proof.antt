@@ -24,8 +24,8 @@ turn-here c =
     let p = c.before.before.before.before.before.before.requires in
     turn_at p.2 p.0.t-high c.before.loop.invariant.0.within c.loop-test.true
 
-pub later-counts-spec : {M : Type 1} → statement M
-later-counts-spec =
+pub later_counts_spec : {M : Type 1} → statement M
+later_counts_spec =
     tie.close
     (tie.spec
     invariant-loop

@@ -6,8 +6,8 @@ use Rattle.shapes.proofs.Ranges.{outside-by-outline}
 use Rattle.layout.proofs.lay_into.Statement.{statement}
 use Rattle.layout.proofs.lay_into.Tie as tie
 
-pub lay-into-spec : {M : Type 1} → statement M
-lay-into-spec =
+pub lay_into_spec : {M : Type 1} → statement M
+lay_into_spec =
     tie.close
     (tie.spec
     -- outline-outside-requires

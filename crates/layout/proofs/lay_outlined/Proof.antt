@@ -8,8 +8,8 @@ use Rattle.code.proofs.LayoutCall.{outside-within, reply-outside}
 use Rattle.layout.proofs.lay_outlined.Statement.{statement}
 use Rattle.layout.proofs.lay_outlined.Tie as tie
 
-pub lay-outlined-spec : {M : Type 1} → statement M
-lay-outlined-spec =
+pub lay_outlined_spec : {M : Type 1} → statement M
+lay_outlined_spec =
     tie.close
     (tie.spec
     -- ranges-outside-requires

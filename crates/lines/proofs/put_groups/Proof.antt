@@ -11,8 +11,8 @@ invariant-loop out₀ at bits place₀ j₀ out place j = (place ≤ text_most) 
 abbrev decreases-loop : tie.decreases-loop
 decreases-loop out₀ at bits place₀ j₀ out place j = 256 - j
 
-pub put-groups-spec : {M : Type 1} → statement M
-put-groups-spec =
+pub put_groups_spec : {M : Type 1} → statement M
+put_groups_spec =
     tie.close
     (tie.spec
     invariant-loop

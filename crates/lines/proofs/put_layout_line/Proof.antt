@@ -3,8 +3,8 @@ use borrow.Author.Rules.{rules}
 use Rattle.lines.proofs.put_layout_line.Statement.{statement}
 use Rattle.lines.proofs.put_layout_line.Tie as tie
 
-pub put-layout-line-spec : {M : Type 1} → statement M
-put-layout-line-spec =
+pub put_layout_line_spec : {M : Type 1} → statement M
+put_layout_line_spec =
     tie.close
     (tie.spec
     (λ c κs. search rules)

@@ -11,8 +11,8 @@ invariant-loop out₀ at outcomes rows place₀ j₀ out place j = (place ≤ te
 abbrev decreases-loop : tie.decreases-loop
 decreases-loop out₀ at outcomes rows place₀ j₀ out place j = outcomes.count - j
 
-pub put-outcomes-spec : {M : Type 1} → statement M
-put-outcomes-spec =
+pub put_outcomes_spec : {M : Type 1} → statement M
+put_outcomes_spec =
     tie.close
     (tie.spec
     invariant-loop

@@ -7,8 +7,8 @@ use Rattle.code.proofs.Tests.{same_test}
 use Rattle.listing.proofs.go_on.Statement.{statement}
 use Rattle.listing.proofs.go_on.Tie as tie
 
-pub go-on-spec : {M : Type 1} → statement M
-go-on-spec =
+pub go_on_spec : {M : Type 1} → statement M
+go_on_spec =
     tie.close
     (tie.spec
     -- add

@@ -5,8 +5,8 @@ use Rattle.text.proofs.Laws.{wider}
 use Rattle.listing.proofs.put_halt_lines.Statement.{statement}
 use Rattle.listing.proofs.put_halt_lines.Tie as tie
 
-pub put-halt-lines-spec : {M : Type 1} → statement M
-put-halt-lines-spec =
+pub put_halt_lines_spec : {M : Type 1} → statement M
+put_halt_lines_spec =
     tie.close
     (tie.spec
     -- enum-known-halt

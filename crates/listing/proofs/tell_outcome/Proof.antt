@@ -8,8 +8,8 @@ use Rattle.listing.proofs.Telling.{refused-line, same-listing}
 use Rattle.listing.proofs.tell_outcome.Statement.{statement}
 use Rattle.listing.proofs.tell_outcome.Tie as tie
 
-pub tell-outcome-spec : {M : Type 1} → statement M
-tell-outcome-spec =
+pub tell_outcome_spec : {M : Type 1} → statement M
+tell_outcome_spec =
     tie.close
     (tie.spec
     -- enum-known-outcome

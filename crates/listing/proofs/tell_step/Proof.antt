@@ -6,8 +6,8 @@ use Rattle.listing.proofs.Telling.{record-refusing, tells-record, tells-end, tel
 use Rattle.listing.proofs.tell_step.Statement.{statement}
 use Rattle.listing.proofs.tell_step.Tie as tie
 
-pub tell-step-spec : {M : Type 1} → statement M
-tell-step-spec =
+pub tell_step_spec : {M : Type 1} → statement M
+tell_step_spec =
     tie.close
     (tie.spec
     -- enum-known-step

@@ -11,9 +11,9 @@ use Rattle.layout.specs.Plan.{Granted}
 use Rattle.many.proofs.field_bytes.Statement.{statement}
 use Rattle.many.proofs.field_bytes.Tie as tie
 
-pub field-bytes-spec : {M : Type 1} → statement M
+pub field_bytes_spec : {M : Type 1} → statement M
 unfolding field_bytes width_of
-field-bytes-spec =
+field_bytes_spec =
     tie.close
     (tie.spec
     (λ c. search rules)

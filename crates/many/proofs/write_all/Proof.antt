@@ -9,8 +9,8 @@ use Rattle.many.proofs.Refusing.{too_many, no-layout, other_length, written-in-o
 use Rattle.many.proofs.write_all.Statement.{statement}
 use Rattle.many.proofs.write_all.Tie as tie
 
-pub write-all-spec : {M : Type 1} → statement M
-write-all-spec =
+pub write_all_spec : {M : Type 1} → statement M
+write_all_spec =
     tie.close
     (tie.spec
     (λ c κs. search rules)

@@ -38,8 +38,8 @@ again c =
     let left = rw a.requires.0.1 at w.1 in
     rows_next l.rows l.j c.before.generation.given.0.0 c.before.generation.given.0.1.0 (omega (arith, a.requires.0.2)) (going_next l.invariant (omega arith) _ left _ _ (omega (arith, a.requires.0.2)) (rw a.requires.0.1 at a.requires.0.3) reply)
 
-pub write-fields-spec : {M : Type 1} → statement M
-write-fields-spec =
+pub write_fields_spec : {M : Type 1} → statement M
+write_fields_spec =
     tie.close
     (tie.spec
     invariant-loop

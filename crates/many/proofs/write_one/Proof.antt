@@ -8,8 +8,8 @@ use lib.ListN.{take, drop}
 use Rattle.many.proofs.write_one.Statement.{statement}
 use Rattle.many.proofs.write_one.Tie as tie
 
-pub write-one-spec : {M : Type 1} → statement M
-write-one-spec =
+pub write_one_spec : {M : Type 1} → statement M
+write_one_spec =
     tie.close
     (tie.spec
     (λ c. search rules)

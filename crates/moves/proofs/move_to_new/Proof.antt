@@ -10,8 +10,8 @@ use Rattle.moves.proofs.ToNew.{moves-new}
 use Rattle.moves.proofs.move_to_new.Statement.{statement}
 use Rattle.moves.proofs.move_to_new.Tie as tie
 
-pub move-to-new-spec : {M : Type 1} → statement M
-move-to-new-spec =
+pub move_to_new_spec : {M : Type 1} → statement M
+move_to_new_spec =
     tie.close
     (tie.spec
     (λ c κs. search rules)

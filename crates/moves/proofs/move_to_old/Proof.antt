@@ -10,8 +10,8 @@ use Rattle.moves.proofs.ToOld.{moves-old}
 use Rattle.moves.proofs.move_to_old.Statement.{statement}
 use Rattle.moves.proofs.move_to_old.Tie as tie
 
-pub move-to-old-spec : {M : Type 1} → statement M
-move-to-old-spec =
+pub move_to_old_spec : {M : Type 1} → statement M
+move_to_old_spec =
     tie.close
     (tie.spec
     (λ c κs. search rules)

@@ -11,8 +11,8 @@ use Rattle.moves.proofs.put_moved.Tie as tie
 part-is : (s : tie.Start) → let h = s.args.head in (h.start + h.count) - h.start ≡ h.count
 part-is s = omega arith
 
-pub put-moved-spec : {M : Type 1} → statement M
-put-moved-spec =
+pub put_moved_spec : {M : Type 1} → statement M
+put_moved_spec =
     tie.close
     (tie.spec
     (λ c. search rules)

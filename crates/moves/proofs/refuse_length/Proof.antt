@@ -6,9 +6,9 @@ use Rattle.moves.specs.Passes.{length_refusal}
 use Rattle.moves.proofs.refuse_length.Statement.{statement}
 use Rattle.moves.proofs.refuse_length.Tie as tie
 
-pub refuse-length-spec : {M : Type 1} → statement M
+pub refuse_length_spec : {M : Type 1} → statement M
 unfolding length_refusal refusal
-refuse-length-spec =
+refuse_length_spec =
     tie.close
     (tie.spec
     -- returns

@@ -3,8 +3,8 @@ use borrow.Author.Rules.{rules}
 use Rattle.moves.proofs.stop_move.Statement.{statement}
 use Rattle.moves.proofs.stop_move.Tie as tie
 
-pub stop-move-spec : {M : Type 1} → statement M
-stop-move-spec =
+pub stop_move_spec : {M : Type 1} → statement M
+stop_move_spec =
     tie.close
     (tie.spec
     (λ c. search rules)

@@ -15,8 +15,8 @@ invariant-loop x rest₀ count₀ rest count = (rest < 2 ^ 63) × (count + lengt
 abbrev decreases-loop : tie.decreases-loop
 decreases-loop x rest₀ count₀ rest count = rest
 
-pub number-length-spec : {M : Type 1} → statement M
-number-length-spec =
+pub number_length_spec : {M : Type 1} → statement M
+number_length_spec =
     tie.close (tie.spec
     invariant-loop
     decreases-loop

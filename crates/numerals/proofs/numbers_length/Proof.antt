@@ -16,9 +16,9 @@ invariant-loop numbers total₀ i₀ total i = (i ≤ length numbers) × (total 
 abbrev decreases-loop : tie.decreases-loop
 decreases-loop numbers total₀ i₀ total i = length numbers - i
 
-pub numbers-length-spec : {M : Type 1} → statement M
+pub numbers_length_spec : {M : Type 1} → statement M
 unfolding numerals_of
-numbers-length-spec =
+numbers_length_spec =
     tie.close
     (tie.spec
     invariant-loop

@@ -22,8 +22,8 @@ group-fits c =
     let s = c.before.before.before.before.loop in
     reading_small s.invariant _ (omega (arith, c.before.before.shared-slice-known.given s.i))
 
-pub read-longer-spec : {M : Type 1} → statement M
-read-longer-spec =
+pub read_longer_spec : {M : Type 1} → statement M
+read_longer_spec =
     tie.close
     (tie.spec
     invariant-loop

@@ -9,9 +9,9 @@ use Rattle.code.proofs.Numerals.{read-last}
 use Rattle.numerals.proofs.read_number.Statement.{statement}
 use Rattle.numerals.proofs.read_number.Tie as tie
 
-pub read-number-spec : {M : Type 1} → statement M
+pub read_number_spec : {M : Type 1} → statement M
 unfolding read_sevens
-read-number-spec =
+read_number_spec =
     tie.close
     (tie.spec
     -- returns

@@ -14,8 +14,8 @@ invariant-loop bytes at numbers₀ end₀ i₀ numbers end i = Heading (length n
 abbrev decreases-loop : tie.decreases-loop
 decreases-loop bytes at numbers₀ end₀ i₀ numbers end i = length numbers₀ - i
 
-pub read-numbers-spec : {M : Type 1} → statement M
-read-numbers-spec =
+pub read_numbers_spec : {M : Type 1} → statement M
+read_numbers_spec =
     tie.close
     (tie.spec
     invariant-loop

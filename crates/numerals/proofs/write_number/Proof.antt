@@ -16,8 +16,8 @@ invariant-loop out₀ at x rest₀ place₀ out rest place = (rest < 2 ^ 63) × 
 abbrev decreases-loop : tie.decreases-loop
 decreases-loop out₀ at x rest₀ place₀ out rest place = rest
 
-pub write-number-spec : {M : Type 1} → statement M
-write-number-spec =
+pub write_number_spec : {M : Type 1} → statement M
+write_number_spec =
     tie.close
     (tie.spec
     invariant-loop

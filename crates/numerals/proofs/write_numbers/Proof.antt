@@ -18,9 +18,9 @@ invariant-loop out₀ at numbers place₀ i₀ out place i = (i ≤ length numbe
 abbrev decreases-loop : tie.decreases-loop
 decreases-loop out₀ at numbers place₀ i₀ out place i = length numbers - i
 
-pub write-numbers-spec : {M : Type 1} → statement M
+pub write_numbers_spec : {M : Type 1} → statement M
 unfolding numerals_of
-write-numbers-spec =
+write_numbers_spec =
     tie.close
     (tie.spec
     invariant-loop

@@ -4,8 +4,8 @@ use Rattle.pairing.proofs.Sights.{second-granted, second-seen, second-unseen, se
 use Rattle.pairing.proofs.add_second.Statement.{statement}
 use Rattle.pairing.proofs.add_second.Tie as tie
 
-pub add-second-spec : {M : Type 1} → statement M
-add-second-spec =
+pub add_second_spec : {M : Type 1} → statement M
+add_second_spec =
     tie.close
     (tie.spec
     -- lay-second-requires

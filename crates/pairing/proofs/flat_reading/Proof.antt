@@ -7,9 +7,9 @@ use Rattle.pairing.proofs.Fields.{read-fields-refused}
 use Rattle.pairing.proofs.flat_reading.Statement.{statement}
 use Rattle.pairing.proofs.flat_reading.Tie as tie
 
-pub flat-reading-spec : {M : Type 1} → statement M
+pub flat_reading_spec : {M : Type 1} → statement M
 unfolding filled pair_read_fields
-flat-reading-spec =
+flat_reading_spec =
     tie.close
     (tie.spec
     (λ c. search rules)

@@ -7,9 +7,9 @@ use Rattle.pairing.proofs.Fields.{write-fields-refused}
 use Rattle.pairing.proofs.flat_writing.Statement.{statement}
 use Rattle.pairing.proofs.flat_writing.Tie as tie
 
-pub flat-writing-spec : {M : Type 1} → statement M
+pub flat_writing_spec : {M : Type 1} → statement M
 unfolding filled pair_write_fields
-flat-writing-spec =
+flat_writing_spec =
     tie.close
     (tie.spec
     (λ c. search rules)

@@ -4,8 +4,8 @@ use Rattle.pairing.proofs.Sights.{second-shaped, laid-alike}
 use Rattle.pairing.proofs.lay_second.Statement.{statement}
 use Rattle.pairing.proofs.lay_second.Tie as tie
 
-pub lay-second-spec : {M : Type 1} → statement M
-lay-second-spec =
+pub lay_second_spec : {M : Type 1} → statement M
+lay_second_spec =
     tie.close
     (tie.spec
     -- returns

@@ -4,8 +4,8 @@ use Rattle.pairing.proofs.PairReads.{pair-18, pair-first, pair-second, first-lai
 use Rattle.pairing.proofs.read_pair.Statement.{statement}
 use Rattle.pairing.proofs.read_pair.Tie as tie
 
-pub read-pair-spec : {M : Type 1} → statement M
-read-pair-spec =
+pub read_pair_spec : {M : Type 1} → statement M
+read_pair_spec =
     tie.close
     (tie.spec
     -- returns

@@ -16,8 +16,8 @@ right c =
     sym (sound-width a.requires a.args.cells.now _ (c.before.before.before.order.ensures a.args.v.now)) ∙ sym c.before.is-sound.ensures
     ∙ not-false _ c.if1.false
 
-pub see-field-spec : {M : Type 1} → statement M
-see-field-spec =
+pub see_field_spec : {M : Type 1} → statement M
+see_field_spec =
     tie.close
     (tie.spec
     -- order-requires

@@ -3,8 +3,8 @@ use borrow.Author.Rules.{rules}
 use Rattle.pairing.proofs.tell_sight.Statement.{statement}
 use Rattle.pairing.proofs.tell_sight.Tie as tie
 
-pub tell-sight-spec : {M : Type 1} → statement M
-tell-sight-spec =
+pub tell_sight_spec : {M : Type 1} → statement M
+tell_sight_spec =
     tie.close
     (tie.spec
     (λ c. search rules)

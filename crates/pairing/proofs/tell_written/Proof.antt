@@ -3,8 +3,8 @@ use borrow.Author.Rules.{rules}
 use Rattle.pairing.proofs.tell_written.Statement.{statement}
 use Rattle.pairing.proofs.tell_written.Tie as tie
 
-pub tell-written-spec : {M : Type 1} → statement M
-tell-written-spec =
+pub tell_written_spec : {M : Type 1} → statement M
+tell_written_spec =
     tie.close
     (tie.spec
     (λ c. search rules)

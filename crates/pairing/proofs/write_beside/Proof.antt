@@ -7,9 +7,9 @@ use Rattle.pairing.proofs.PairWrites.{first-seen, first-granted, second-no-layou
 use Rattle.pairing.proofs.write_beside.Statement.{statement}
 use Rattle.pairing.proofs.write_beside.Tie as tie
 
-pub write-beside-spec : {M : Type 1} → statement M
+pub write_beside_spec : {M : Type 1} → statement M
 unfolding completing first_due second_due
-write-beside-spec =
+write_beside_spec =
     tie.close
     (tie.spec
     -- lay-second-requires

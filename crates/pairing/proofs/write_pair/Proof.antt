@@ -7,8 +7,8 @@ use Rattle.pairing.proofs.PairWrites.{seen-so, writes-18, first-no-layout, first
 use Rattle.pairing.proofs.write_pair.Statement.{statement}
 use Rattle.pairing.proofs.write_pair.Tie as tie
 
-pub write-pair-spec : {M : Type 1} → statement M
-write-pair-spec =
+pub write_pair_spec : {M : Type 1} → statement M
+write_pair_spec =
     tie.close
     (tie.spec
     -- returns

@@ -4,8 +4,8 @@ use borrow.Author.Tests.{ne_eqb}
 use Rattle.reading.proofs.answer_blank.Statement.{statement}
 use Rattle.reading.proofs.answer_blank.Tie as tie
 
-pub answer-blank-spec : {M : Type 1} → statement M
-answer-blank-spec =
+pub answer_blank_spec : {M : Type 1} → statement M
+answer_blank_spec =
     tie.close
     (tie.spec
     -- returns

@@ -4,9 +4,9 @@ use Rattle.code.specs.Calls.{filled}
 use Rattle.reading.proofs.flat_refusal.Statement.{statement}
 use Rattle.reading.proofs.flat_refusal.Tie as tie
 
-pub flat-refusal-spec : {M : Type 1} → statement M
+pub flat_refusal_spec : {M : Type 1} → statement M
 unfolding filled
-flat-refusal-spec =
+flat_refusal_spec =
     tie.close
     (tie.spec
     (λ c. search rules)

@@ -6,8 +6,8 @@ use borrow.Author.Tests.{not-true, not-false, eqb-true, eqb-false}
 use Rattle.reading.proofs.is_miscounted.Statement.{statement}
 use Rattle.reading.proofs.is_miscounted.Tie as tie
 
-pub is-miscounted-spec : {M : Type 1} → statement M
-is-miscounted-spec =
+pub is_miscounted_spec : {M : Type 1} → statement M
+is_miscounted_spec =
     tie.close
     (tie.spec
     -- returns

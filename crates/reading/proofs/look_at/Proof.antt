@@ -4,8 +4,8 @@ use Rattle.reading.proofs.Looking.{loadable, loaded-holds, looked}
 use Rattle.reading.proofs.look_at.Statement.{statement}
 use Rattle.reading.proofs.look_at.Tie as tie
 
-pub look-at-spec : {M : Type 1} → statement M
-look-at-spec =
+pub look_at_spec : {M : Type 1} → statement M
+look_at_spec =
     tie.close
     (tie.spec
     (λ c κs. search rules)

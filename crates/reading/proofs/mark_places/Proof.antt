@@ -4,8 +4,8 @@ use borrow.Author.Rules.{rules}
 use Rattle.reading.proofs.mark_places.Statement.{statement}
 use Rattle.reading.proofs.mark_places.Tie as tie
 
-pub mark-places-spec : {M : Type 1} → statement M
-mark-places-spec =
+pub mark_places_spec : {M : Type 1} → statement M
+mark_places_spec =
     tie.close
     (tie.spec
     -- element-copy-out-mark-all

@@ -6,8 +6,8 @@ use native.Mathlib.Numerals.{add-one}
 use Rattle.reading.proofs.ranged.Statement.{statement}
 use Rattle.reading.proofs.ranged.Tie as tie
 
-pub ranged-spec : {M : Type 1} → statement M
-ranged-spec =
+pub ranged_spec : {M : Type 1} → statement M
+ranged_spec =
     tie.close
     (tie.spec
     (λ c. search rules)

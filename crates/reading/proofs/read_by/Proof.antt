@@ -5,8 +5,8 @@ use Rattle.reading.proofs.Looking.{reads-refused}
 use Rattle.reading.proofs.read_by.Statement.{statement}
 use Rattle.reading.proofs.read_by.Tie as tie
 
-pub read-by-spec : {M : Type 1} → statement M
-read-by-spec =
+pub read_by_spec : {M : Type 1} → statement M
+read_by_spec =
     tie.close
     (tie.spec
     -- returns

@@ -15,8 +15,8 @@ right c =
     sym (sound-width a.requires a.args.cells.now _ (c.before.before.before.order.ensures a.args.v.now)) ∙ sym c.before.is-sound.ensures
     ∙ not-false _ c.if1.false
 
-pub read-granted-spec : {M : Type 1} → statement M
-read-granted-spec =
+pub read_granted_spec : {M : Type 1} → statement M
+read_granted_spec =
     tie.close
     (tie.spec
     (λ c κs. search rules)

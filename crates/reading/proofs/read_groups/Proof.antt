@@ -20,8 +20,8 @@ marked c =
     let M = c.before.mark-places.ensures.0 in
     placed a.requires.0 a.requires.1 a.requires.2 p.before.if1.false _ p.past.ensures.0 right M.0 M.1
 
-pub read-groups-spec : {M : Type 1} → statement M
-read-groups-spec =
+pub read_groups_spec : {M : Type 1} → statement M
+read_groups_spec =
     tie.close
     (tie.spec
     (λ c. search rules)

@@ -7,8 +7,8 @@ use Rattle.records.proofs.Laws.{layouts-each, none-listed}
 use Rattle.records.proofs.listed_shape.Statement.{statement}
 use Rattle.records.proofs.listed_shape.Tie as tie
 
-pub listed-shape-spec : {M : Type 1} → statement M
-listed-shape-spec =
+pub listed_shape_spec : {M : Type 1} → statement M
+listed_shape_spec =
     tie.close
     (tie.spec
     (λ c κs. search rules)

@@ -6,8 +6,8 @@ use Rattle.storing.proofs.Put.{put_then, put-length}
 use Rattle.records.proofs.put_record.Statement.{statement}
 use Rattle.records.proofs.put_record.Tie as tie
 
-pub put-record-spec : {M : Type 1} → statement M
-put-record-spec =
+pub put_record_spec : {M : Type 1} → statement M
+put_record_spec =
     tie.close
     (tie.spec
     -- write-numbers-requires

@@ -4,9 +4,9 @@ use Rattle.records.specs.Source.{source_of}
 use Rattle.records.proofs.read_head.Statement.{statement}
 use Rattle.records.proofs.read_head.Tie as tie
 
-pub read-head-spec : {M : Type 1} → statement M
+pub read_head_spec : {M : Type 1} → statement M
 unfolding source_of
-read-head-spec =
+read_head_spec =
     tie.close
     (tie.spec
     (λ c. search rules)

@@ -12,8 +12,8 @@ use Rattle.records.proofs.read_listed_head.Tie as tie
 abbrev source_of : tie.After-numbers → Source
 source_of c = let a = c.before.before.before.args in listed_layouts (layouts_at a.dump.now a.places.now)
 
-pub read-listed-head-spec : {M : Type 1} → statement M
-read-listed-head-spec =
+pub read_listed_head_spec : {M : Type 1} → statement M
+read_listed_head_spec =
     tie.close
     (tie.spec
     (λ c. search rules)

@@ -8,9 +8,9 @@ use Rattle.records.proofs.Laws.{head-cut, head-within, head-short, head-whole}
 use Rattle.records.proofs.read_own_head.Statement.{statement}
 use Rattle.records.proofs.read_own_head.Tie as tie
 
-pub read-own-head-spec : {M : Type 1} → statement M
+pub read_own_head_spec : {M : Type 1} → statement M
 unfolding record_by out_of_list said_shape
-read-own-head-spec =
+read_own_head_spec =
     tie.close
     (tie.spec
     (λ c. search rules)

@@ -9,8 +9,8 @@ use Rattle.code.proofs.Records.{numerals-few, record-size}
 use Rattle.records.proofs.record_length.Statement.{statement}
 use Rattle.records.proofs.record_length.Tie as tie
 
-pub record-length-spec : {M : Type 1} → statement M
-record-length-spec =
+pub record_length_spec : {M : Type 1} → statement M
+record_length_spec =
     tie.close
     (tie.spec
     (λ c κs. search rules)

@@ -5,9 +5,9 @@ use Rattle.records.specs.Head.{said_shape}
 use Rattle.records.proofs.shape_said.Statement.{statement}
 use Rattle.records.proofs.shape_said.Tie as tie
 
-pub shape-said-spec : {M : Type 1} → statement M
+pub shape_said_spec : {M : Type 1} → statement M
 unfolding said_shape source_of
-shape-said-spec =
+shape_said_spec =
     tie.close
     (tie.spec
     (λ c. search rules)

@@ -8,8 +8,8 @@ use Rattle.reporting.proofs.Gathering.{gathered-zero}
 use Rattle.reporting.proofs.fresh_bits.Statement.{statement}
 use Rattle.reporting.proofs.fresh_bits.Tie as tie
 
-pub fresh-bits-spec : {M : Type 1} → statement M
-fresh-bits-spec =
+pub fresh_bits_spec : {M : Type 1} → statement M
+fresh_bits_spec =
     tie.close
     (tie.spec
     -- fresh-marks-requires

@@ -14,8 +14,8 @@ invariant-loop flags m groups left₀ bits₀ k₀ left bits k = (k ≤ word_gro
 abbrev decreases-loop : tie.decreases-loop
 decreases-loop flags m groups left₀ bits₀ k₀ left bits k = groups - k
 
-pub gather-bits-spec : {M : Type 1} → statement M
-gather-bits-spec =
+pub gather_bits_spec : {M : Type 1} → statement M
+gather_bits_spec =
     tie.close
     (tie.spec
     invariant-loop

@@ -4,8 +4,8 @@ use Rattle.reporting.proofs.Sizes.{groups-two, groups-more}
 use Rattle.reporting.proofs.groups_of.Statement.{statement}
 use Rattle.reporting.proofs.groups_of.Tie as tie
 
-pub groups-of-spec : {M : Type 1} → statement M
-groups-of-spec =
+pub groups_of_spec : {M : Type 1} → statement M
+groups_of_spec =
     tie.close
     (tie.spec
     -- returns

@@ -24,8 +24,8 @@ reportable c =
     reporting-more l.loop.invariant.1 l.before.before.before.args.n _ _
     (omega arith) (omega arith) (omega arith) (omega arith) (omega arith) (omega arith) at c.«fresh-bits».ensures
 
-pub report-spec : {M : Type 1} → statement M
-report-spec =
+pub report_spec : {M : Type 1} → statement M
+report_spec =
     tie.close
     (tie.spec
     invariant-loop

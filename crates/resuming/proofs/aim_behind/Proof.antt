@@ -3,8 +3,8 @@ use borrow.Author.Tests.{eq-eqb, ne_eqb}
 use Rattle.resuming.proofs.aim_behind.Statement.{statement}
 use Rattle.resuming.proofs.aim_behind.Tie as tie
 
-pub aim-behind-spec : {M : Type 1} → statement M
-aim-behind-spec =
+pub aim_behind_spec : {M : Type 1} → statement M
+aim_behind_spec =
     tie.close
     (tie.spec
     -- returns

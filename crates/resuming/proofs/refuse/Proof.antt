@@ -6,9 +6,9 @@ use Rattle.code.specs.Resume.{bits_at, resume_fields}
 use Rattle.resuming.proofs.refuse.Statement.{statement}
 use Rattle.resuming.proofs.refuse.Tie as tie
 
-pub refuse-spec : {M : Type 1} → statement M
+pub refuse_spec : {M : Type 1} → statement M
 unfolding resume_fields filled listed bits_at
-refuse-spec =
+refuse_spec =
     tie.close
     (tie.spec
     -- returns

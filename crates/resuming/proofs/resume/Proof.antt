@@ -7,8 +7,8 @@ use Rattle.resuming.proofs.Resuming.{resumes-refused}
 use Rattle.resuming.proofs.resume.Statement.{statement}
 use Rattle.resuming.proofs.resume.Tie as tie
 
-pub resume-spec : {M : Type 1} → statement M
-resume-spec =
+pub resume_spec : {M : Type 1} → statement M
+resume_spec =
     tie.close
     (tie.spec
     -- outline-of-requires

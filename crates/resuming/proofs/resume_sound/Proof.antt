@@ -18,8 +18,8 @@ aimed c =
     let a = l.before.before.before.before.before in
     aims a.requires.0 a.args.x _ a.requires.2 a.requires.1 l.look_at.ensures.0 _ (sym aim.aim.given.1 ∙ aim.before.before.take-aim.ensures)
 
-pub resume-sound-spec : {M : Type 1} → statement M
-resume-sound-spec =
+pub resume_sound_spec : {M : Type 1} → statement M
+resume_sound_spec =
     tie.close
     (tie.spec
     -- look-at-requires

@@ -3,8 +3,8 @@ use borrow.Author.Rules.{rules}
 use Rattle.resuming.proofs.take_aim.Statement.{statement}
 use Rattle.resuming.proofs.take_aim.Tie as tie
 
-pub take-aim-spec : {M : Type 1} → statement M
-take-aim-spec =
+pub take_aim_spec : {M : Type 1} → statement M
+take_aim_spec =
     tie.close
     (tie.spec
     -- enum-told

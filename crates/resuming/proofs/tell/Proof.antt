@@ -8,9 +8,9 @@ use Rattle.code.specs.Resume.{resume_fields}
 use Rattle.resuming.proofs.tell.Statement.{statement}
 use Rattle.resuming.proofs.tell.Tie as tie
 
-pub tell-spec : {M : Type 1} → statement M
+pub tell_spec : {M : Type 1} → statement M
 unfolding resume_fields filled
-tell-spec =
+tell_spec =
     tie.close
     (tie.spec
     -- report-requires

@@ -5,8 +5,8 @@ use borrow.Author.Rules.{rules}
 use Rattle.shapes.proofs.all_ones.Statement.{statement}
 use Rattle.shapes.proofs.all_ones.Tie as tie
 
-pub all-ones-spec : {M : Type 1} → statement M
-all-ones-spec =
+pub all_ones_spec : {M : Type 1} → statement M
+all_ones_spec =
     tie.close
     (tie.spec
     -- low-ones-requires

@@ -16,8 +16,8 @@ invariant-loop v count i₀ i = (i ≤ count) × (all_ranges (listed (λ n. get_
 abbrev decreases-loop : tie.decreases-loop
 decreases-loop v count i₀ i = count - i
 
-pub later-ranges-spec : {M : Type 1} → statement M
-later-ranges-spec =
+pub later_ranges_spec : {M : Type 1} → statement M
+later_ranges_spec =
     tie.close
     (tie.spec
     invariant-loop

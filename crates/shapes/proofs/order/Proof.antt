@@ -4,9 +4,9 @@ use Rattle.code.specs.Shape.{order_of}
 use Rattle.shapes.proofs.order.Statement.{statement}
 use Rattle.shapes.proofs.order.Tie as tie
 
-pub order-spec : {M : Type 1} → statement M
+pub order_spec : {M : Type 1} → statement M
 unfolding order_of
-order-spec =
+order_spec =
     tie.close
     (tie.spec
     -- returns

@@ -4,9 +4,9 @@ use Rattle.shapes.specs.Outlines.{outline_outside}
 use Rattle.shapes.proofs.outline_outside.Statement.{statement}
 use Rattle.shapes.proofs.outline_outside.Tie as tie
 
-pub outline-outside-spec : {M : Type 1} → statement M
+pub outline_outside_spec : {M : Type 1} → statement M
 unfolding outline_outside
-outline-outside-spec =
+outline_outside_spec =
     tie.close
     (tie.spec
     -- ranges-due-requires

@@ -14,8 +14,8 @@ use Rattle.shapes.proofs.range_at.Tie as tie
 found : (s : Shape) → Bounds s → (i : ℕ) → i < s.t → (r : ℕ) → r ≡ get_or (ranges_of s) i 0 → (r ≡ get_or (ranges_of s) i 0) × (2 ≤ r) × (r ≤ 2 ^ 56)
 found s b i l r e = let w = range-within s b i l in (e, rw e w.0, rw e w.1)
 
-pub range-at-spec : {M : Type 1} → statement M
-range-at-spec =
+pub range_at_spec : {M : Type 1} → statement M
+range_at_spec =
     tie.close
     (tie.spec
     -- mul-result

@@ -4,9 +4,9 @@ use Rattle.code.specs.Shape.{ranges_due}
 use Rattle.shapes.proofs.ranges_due.Statement.{statement}
 use Rattle.shapes.proofs.ranges_due.Tie as tie
 
-pub ranges-due-spec : {M : Type 1} → statement M
+pub ranges_due_spec : {M : Type 1} → statement M
 unfolding ranges_due
-ranges-due-spec =
+ranges_due_spec =
     tie.close
     (tie.spec
     -- returns

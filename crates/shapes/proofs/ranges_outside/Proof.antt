@@ -4,8 +4,8 @@ use Rattle.shapes.proofs.Ranges.{count-within, ranges-tested}
 use Rattle.shapes.proofs.ranges_outside.Statement.{statement}
 use Rattle.shapes.proofs.ranges_outside.Tie as tie
 
-pub ranges-outside-spec : {M : Type 1} → statement M
-ranges-outside-spec =
+pub ranges_outside_spec : {M : Type 1} → statement M
+ranges_outside_spec =
     tie.close
     (tie.spec
     -- element-copy-out-is-range

@@ -12,14 +12,14 @@ use Rattle.storing.proofs.Put.{Storing, storing-begin, storing-first, storing-en
 use Rattle.storing.proofs.put_bytes.Statement.{statement}
 use Rattle.storing.proofs.put_bytes.Tie as tie
 
-abbrev invariant-loop : tie.invariant-loop
+abbrev invariant-loop : tie.invariant-loop-i
 invariant-loop out₀ at bytes i₀ out i = (i ≤ length bytes) × Storing out₀ at bytes out (at + i) (drop i bytes) (at + length bytes)
 
-abbrev decreases-loop : tie.decreases-loop
+abbrev decreases-loop : tie.decreases-loop-i
 decreases-loop out₀ at bytes i₀ out i = length bytes - i
 
-pub put-bytes-spec : {M : Type 1} → statement M
-put-bytes-spec =
+pub put_bytes_spec : {M : Type 1} → statement M
+put_bytes_spec =
     tie.close
     (tie.spec
     invariant-loop
@@ -38,9 +38,9 @@ put-bytes-spec =
     (λ c. search rules)
     -- loop-again
     (λ c.
-    let s = c.before.before.loop in
+    let s = c.before.before.loop-i in
     let bytes = c.before.before.before.args.bytes.now in
-    let left : drop s.i bytes ≡ get_or bytes s.i 0 ∷ drop (suc s.i) bytes = drop-cons bytes s.i 0 c.before.loop-test.true in
+    let left : drop s.i bytes ≡ get_or bytes s.i 0 ∷ drop (suc s.i) bytes = drop-cons bytes s.i 0 c.before.loop-i-test.true in
     (search rules, rw (← add_assoc, add-one s.i) (storing-first (rw left at s.invariant.1) (omega arith) (omega arith))))
     -- add-result
     (λ c. search rules)
@@ -48,6 +48,6 @@ put-bytes-spec =
     (λ c. search rules)
     -- returns
     (λ c.
-    let s = c.before.loop in
+    let s = c.before.loop-i in
     let bytes = c.before.before.args.bytes.now in
-    storing-end (rw (drop_of_length-le bytes c.loop-test.false) at s.invariant.1)))
+    storing-end (rw (drop_of_length-le bytes c.loop-i-test.false) at s.invariant.1)))

@@ -15,8 +15,8 @@ invariant-loop x rest₀ count₀ rest count = (rest < 10 ^ 20) × (count + leng
 abbrev decreases-loop : tie.decreases-loop
 decreases-loop x rest₀ count₀ rest count = rest
 
-pub decimal-length-spec : {M : Type 1} → statement M
-decimal-length-spec =
+pub decimal_length_spec : {M : Type 1} → statement M
+decimal_length_spec =
     tie.close (tie.spec
     invariant-loop
     decreases-loop

@@ -15,8 +15,8 @@ invariant-loop out₀ at x next rest₀ place₀ out rest place = (rest < 10 ^ 2
 abbrev decreases-loop : tie.decreases-loop
 decreases-loop out₀ at x next rest₀ place₀ out rest place = rest
 
-pub put-decimal-spec : {M : Type 1} → statement M
-put-decimal-spec =
+pub put_decimal_spec : {M : Type 1} → statement M
+put_decimal_spec =
     tie.close
     (tie.spec
     invariant-loop

@@ -5,8 +5,8 @@ use Rattle.text.proofs.Laws.{exactly, within-then}
 use Rattle.text.proofs.put_labelled.Statement.{statement}
 use Rattle.text.proofs.put_labelled.Tie as tie
 
-pub put-labelled-spec : {M : Type 1} → statement M
-put-labelled-spec =
+pub put_labelled_spec : {M : Type 1} → statement M
+put_labelled_spec =
     tie.close (tie.spec
     -- put-bytes-requires
     (λ c κs. omega arith)

@@ -9,9 +9,9 @@ use Rattle.text.proofs.Laws.{exactly, within-then}
 use Rattle.text.proofs.put_last_line.Statement.{statement}
 use Rattle.text.proofs.put_last_line.Tie as tie
 
-pub put-last-line-spec : {M : Type 1} → statement M
+pub put_last_line_spec : {M : Type 1} → statement M
 unfolding ascii last_line
-put-last-line-spec =
+put_last_line_spec =
     tie.close
     (tie.spec
     -- slice-aggregate-put-labelled

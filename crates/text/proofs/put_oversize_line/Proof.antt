@@ -8,9 +8,9 @@ use Rattle.text.proofs.Laws.{exactly}
 use Rattle.text.proofs.put_oversize_line.Statement.{statement}
 use Rattle.text.proofs.put_oversize_line.Tie as tie
 
-pub put-oversize-line-spec : {M : Type 1} → statement M
+pub put_oversize_line_spec : {M : Type 1} → statement M
 unfolding ascii spelled stop_lines
-put-oversize-line-spec =
+put_oversize_line_spec =
     tie.close (tie.spec
     -- slice-aggregate-put-bytes
     (λ c. refl)

@@ -9,9 +9,9 @@ use Rattle.text.proofs.Laws.{exactly, within-then, within_same}
 use Rattle.text.proofs.put_reading_line.Statement.{statement}
 use Rattle.text.proofs.put_reading_line.Tie as tie
 
-pub put-reading-line-spec : {M : Type 1} → statement M
+pub put_reading_line_spec : {M : Type 1} → statement M
 unfolding ascii record_line
-put-reading-line-spec =
+put_reading_line_spec =
     tie.close
     (tie.spec
     -- put-decimal-requires

@@ -10,9 +10,9 @@ use Rattle.text.proofs.Laws.{exactly, within-then}
 use Rattle.text.proofs.put_refusal_line.Statement.{statement}
 use Rattle.text.proofs.put_refusal_line.Tie as tie
 
-pub put-refusal-line-spec : {M : Type 1} → statement M
+pub put_refusal_line_spec : {M : Type 1} → statement M
 unfolding ascii record_line
-put-refusal-line-spec =
+put_refusal_line_spec =
     tie.close
     (tie.spec
     -- put-decimal-requires

@@ -9,9 +9,9 @@ use Rattle.text.proofs.Laws.{exactly, within-then}
 use Rattle.text.proofs.put_stop_lines.Statement.{statement}
 use Rattle.text.proofs.put_stop_lines.Tie as tie
 
-pub put-stop-lines-spec : {M : Type 1} → statement M
+pub put_stop_lines_spec : {M : Type 1} → statement M
 unfolding ascii spelled stop_lines
-put-stop-lines-spec =
+put_stop_lines_spec =
     tie.close
     (tie.spec
     -- slice-aggregate-put-labelled

@@ -10,8 +10,8 @@ use Rattle.triangle.proofs.stored.Tie as tie
 product : (n : ℕ) → n ≤ 60 → n * (n + 1) ≤ 60 * 61
 product n h = mul-le-mul {n₁ = n} {m₁ = n + 1} {n₂ = 60} {m₂ = 61} h (omega arith)
 
-pub stored-spec : {M : Type 1} → statement M
-stored-spec =
+pub stored_spec : {M : Type 1} → statement M
+stored_spec =
     tie.close
     (tie.spec
     (λ c. search rules)

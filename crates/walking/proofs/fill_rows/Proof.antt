@@ -31,8 +31,8 @@ again c =
     let told = m.before.before.step.given.1 in
     (s.step_kept.ensures.1, walking-next l.loop.invariant.1 ready (omega arith) s.step_kept.ensures.0 told put)
 
-pub fill-rows-spec : {M : Type 1} → statement M
-fill-rows-spec =
+pub fill_rows_spec : {M : Type 1} → statement M
+fill_rows_spec =
     tie.close
     (tie.spec
     invariant-loop

@@ -3,8 +3,8 @@ use borrow.Author.Rules.{rules}
 use Rattle.walking.proofs.halt_walk.Statement.{statement}
 use Rattle.walking.proofs.halt_walk.Tie as tie
 
-pub halt-walk-spec : {M : Type 1} → statement M
-halt-walk-spec =
+pub halt_walk_spec : {M : Type 1} → statement M
+halt_walk_spec =
     tie.close
     (tie.spec
     -- flat-halt-requires

@@ -4,9 +4,9 @@ use Rattle.code.specs.Dump.{record_numbers, row_numbers}
 use Rattle.walking.proofs.make_row.Statement.{statement}
 use Rattle.walking.proofs.make_row.Tie as tie
 
-pub make-row-spec : {M : Type 1} → statement M
+pub make_row_spec : {M : Type 1} → statement M
 unfolding row_numbers record_numbers
-make-row-spec =
+make_row_spec =
     tie.close
     (tie.spec
     -- flat-requires

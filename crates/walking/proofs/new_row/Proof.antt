@@ -4,9 +4,9 @@ use Rattle.code.specs.Dump.{record_numbers, row_numbers}
 use Rattle.walking.proofs.new_row.Statement.{statement}
 use Rattle.walking.proofs.new_row.Tie as tie
 
-pub new-row-spec : {M : Type 1} → statement M
+pub new_row_spec : {M : Type 1} → statement M
 unfolding row_numbers record_numbers
-new-row-spec =
+new_row_spec =
     tie.close
     (tie.spec
     -- returns

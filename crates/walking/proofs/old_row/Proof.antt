@@ -4,9 +4,9 @@ use Rattle.code.specs.Dump.{record_numbers, row_numbers}
 use Rattle.walking.proofs.old_row.Statement.{statement}
 use Rattle.walking.proofs.old_row.Tie as tie
 
-pub old-row-spec : {M : Type 1} → statement M
+pub old_row_spec : {M : Type 1} → statement M
 unfolding row_numbers record_numbers
-old-row-spec =
+old_row_spec =
     tie.close
     (tie.spec
     -- returns

@@ -20,8 +20,8 @@ invariant-loop rows₀ place width numbers i₀ rows i =
 abbrev decreases-loop : tie.decreases-loop
 decreases-loop rows₀ place width numbers i₀ rows i = width - i
 
-pub put-row-spec : {M : Type 1} → statement M
-put-row-spec =
+pub put_row_spec : {M : Type 1} → statement M
+put_row_spec =
     tie.close
     (tie.spec
     invariant-loop

@@ -13,8 +13,8 @@ invariant-loop words₀ n m spare marks₀ low e left₀ i₀ words marks left i
 abbrev decreases-loop : tie.decreases-loop
 decreases-loop words₀ n m spare marks₀ low e left₀ i₀ words marks left i = n - i
 
-pub erase-spec : {M : Type 1} → statement M
-erase-spec =
+pub erase_spec : {M : Type 1} → statement M
+erase_spec =
     tie.close
     (tie.spec
     invariant-loop

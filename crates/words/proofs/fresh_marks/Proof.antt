@@ -5,8 +5,8 @@ use Rattle.words.proofs.Fresh.{fresh-groups}
 use Rattle.words.proofs.fresh_marks.Statement.{statement}
 use Rattle.words.proofs.fresh_marks.Tie as tie
 
-pub fresh-marks-spec : {M : Type 1} → statement M
-fresh-marks-spec =
+pub fresh_marks_spec : {M : Type 1} → statement M
+fresh_marks_spec =
     tie.close
     (tie.spec
     -- low-bits-requires

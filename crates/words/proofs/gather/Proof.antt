@@ -13,8 +13,8 @@ invariant-loop words marks n m places labels₀ values₀ low right₀ k₀ i₀
 abbrev decreases-loop : tie.decreases-loop
 decreases-loop words marks n m places labels₀ values₀ low right₀ k₀ i₀ labels values right k i = n - i
 
-pub gather-spec : {M : Type 1} → statement M
-gather-spec =
+pub gather_spec : {M : Type 1} → statement M
+gather_spec =
     tie.close
     (tie.spec
     invariant-loop

@@ -31,8 +31,8 @@ label c =
 room : (c : tie.In-loop invariant-loop decreases-loop) → c.before.loop.i < pattern_most
 room c = leftover-room c.before.loop.invariant.0 (omega arith) c.before.loop.invariant.1
 
-pub gather-word-spec : {M : Type 1} → statement M
-gather-word-spec =
+pub gather_word_spec : {M : Type 1} → statement M
+gather_word_spec =
     tie.close
     (tie.spec
     invariant-loop

@@ -15,8 +15,8 @@ invariant-loop before after n m low all₀ i₀ all i = (i ≤ n) × (all ≡ wi
 abbrev decreases-loop : tie.decreases-loop
 decreases-loop before after n m low all₀ i₀ all i = n - i
 
-pub is-wiped-spec : {M : Type 1} → statement M
-is-wiped-spec =
+pub is_wiped_spec : {M : Type 1} → statement M
+is_wiped_spec =
     tie.close
     (tie.spec
     invariant-loop

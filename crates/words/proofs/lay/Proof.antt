@@ -32,8 +32,8 @@ right c =
     let l = c.before.before.before.loop in
     rw c.ones.ensures.0 (spread-right c.before.before.before.before.requires.0.0 l.invariant (inside c.before.before).0).1
 
-pub lay-spec : {M : Type 1} → statement M
-lay-spec =
+pub lay_spec : {M : Type 1} → statement M
+lay_spec =
     tie.close
     (tie.spec
     invariant-loop

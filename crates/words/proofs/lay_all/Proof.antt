@@ -11,8 +11,8 @@ invariant-loop w marks m values at word₀ left₀ i₀ word left i = Digits m w
 abbrev decreases-loop : tie.decreases-loop
 decreases-loop w marks m values at word₀ left₀ i₀ word left i = left
 
-pub lay-all-spec : {M : Type 1} → statement M
-lay-all-spec =
+pub lay_all_spec : {M : Type 1} → statement M
+lay_all_spec =
     tie.close
     (tie.spec
     invariant-loop

@@ -15,8 +15,8 @@ invariant-loop words₀ marks n m values at₀ i₀ words at i = (i ≤ n) × (a
 abbrev decreases-loop : tie.decreases-loop
 decreases-loop words₀ marks n m values at₀ i₀ words at i = n - i
 
-pub lay-digits-spec : {M : Type 1} → statement M
-lay-digits-spec =
+pub lay_digits_spec : {M : Type 1} → statement M
+lay_digits_spec =
     tie.close
     (tie.spec
     invariant-loop

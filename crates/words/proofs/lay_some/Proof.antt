@@ -26,8 +26,8 @@ some c =
     let l = c.before.before.before.before.before.loop in
     rw c.skip.ensures (skip-some l.invariant (omega arith) (omega arith) (omega arith) _ _ c.before.before.wide.ensures.0 refl (omega arith))
 
-pub lay-some-spec : {M : Type 1} → statement M
-lay-some-spec =
+pub lay_some_spec : {M : Type 1} → statement M
+lay_some_spec =
     tie.close
     (tie.spec
     invariant-loop

@@ -12,8 +12,8 @@ invariant-loop n m h marks₀ low last i₀ marks i = (i ≤ last) × Marking m 
 abbrev decreases-loop : tie.decreases-loop
 decreases-loop n m h marks₀ low last i₀ marks i = last - i
 
-pub mark-all-spec : {M : Type 1} → statement M
-mark-all-spec =
+pub mark_all_spec : {M : Type 1} → statement M
+mark_all_spec =
     tie.close
     (tie.spec
     invariant-loop

@@ -22,8 +22,8 @@ room c =
     let p = c.before.before.before.requires.0 in
     filling-room p.0 p.1 c.before.loop.invariant.0 (omega arith) c.before.loop.invariant.1
 
-pub pick-word-spec : {M : Type 1} → statement M
-pick-word-spec =
+pub pick_word_spec : {M : Type 1} → statement M
+pick_word_spec =
     tie.close
     (tie.spec
     invariant-loop

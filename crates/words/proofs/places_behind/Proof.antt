@@ -4,8 +4,8 @@ use borrow.Author.Rules.{rules}
 use Rattle.words.proofs.places_behind.Statement.{statement}
 use Rattle.words.proofs.places_behind.Tie as tie
 
-pub places-behind-spec : {M : Type 1} → statement M
-places-behind-spec =
+pub places_behind_spec : {M : Type 1} → statement M
+places_behind_spec =
     tie.close
     (tie.spec
     (λ c. search rules)

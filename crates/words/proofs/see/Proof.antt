@@ -14,8 +14,8 @@ invariant-loop words n m marks₀ low zeros₀ unerased₀ i₀ marks zeros uner
 abbrev decreases-loop : tie.decreases-loop
 decreases-loop words n m marks₀ low zeros₀ unerased₀ i₀ marks zeros unerased i = n - i
 
-pub see-spec : {M : Type 1} → statement M
-see-spec =
+pub see_spec : {M : Type 1} → statement M
+see_spec =
     tie.close
     (tie.spec
     invariant-loop

@@ -7,8 +7,8 @@ use borrow.Author.Rules.{rules}
 use Rattle.words.proofs.take_spare.Statement.{statement}
 use Rattle.words.proofs.take_spare.Tie as tie
 
-pub take-spare-spec : {M : Type 1} → statement M
-take-spare-spec =
+pub take_spare_spec : {M : Type 1} → statement M
+take_spare_spec =
     tie.close
     (tie.spec
     -- returns

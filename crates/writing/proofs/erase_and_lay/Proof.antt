@@ -4,8 +4,8 @@ use Rattle.writing.proofs.Laying.{places-are, laid-over}
 use Rattle.writing.proofs.erase_and_lay.Statement.{statement}
 use Rattle.writing.proofs.erase_and_lay.Tie as tie
 
-pub erase-and-lay-spec : {M : Type 1} → statement M
-erase-and-lay-spec =
+pub erase_and_lay_spec : {M : Type 1} → statement M
+erase_and_lay_spec =
     tie.close
     (tie.spec
     -- sub-erase

@@ -5,9 +5,9 @@ use Rattle.reading.proofs.Refusals.{refusal-told, write-refused}
 use Rattle.writing.proofs.flat.Statement.{statement}
 use Rattle.writing.proofs.flat.Tie as tie
 
-pub flat-spec : {M : Type 1} → statement M
+pub flat_spec : {M : Type 1} → statement M
 unfolding filled write_fields
-flat-spec =
+flat_spec =
     tie.close
     (tie.spec
     (λ c. search rules)

@@ -8,8 +8,8 @@ use Rattle.writing.proofs.Laying.{dealt-is}
 use Rattle.writing.proofs.lay_dealt.Statement.{statement}
 use Rattle.writing.proofs.lay_dealt.Tie as tie
 
-pub lay-dealt-spec : {M : Type 1} → statement M
-lay-dealt-spec =
+pub lay_dealt_spec : {M : Type 1} → statement M
+lay_dealt_spec =
     tie.close
     (tie.spec
     (λ c κs. search rules)

@@ -23,8 +23,8 @@ returns c = rw (patterns-laid c.before.before.before.before.before.requires.2 c.
 returns-2 : tie.Need-returns-2
 returns-2 c = rw (digits-laid c.before.before.before.before.before.requires.2 c.before.before.before.dealing2.given.1) at c.lay-plain.ensures
 
-pub lay-number-spec : {M : Type 1} → statement M
-lay-number-spec =
+pub lay_number_spec : {M : Type 1} → statement M
+lay_number_spec =
     tie.close
     (tie.spec
     (λ c. search rules)

@@ -5,8 +5,8 @@ use Rattle.writing.proofs.Laying.{digits_are}
 use Rattle.writing.proofs.lay_plain.Statement.{statement}
 use Rattle.writing.proofs.lay_plain.Tie as tie
 
-pub lay-plain-spec : {M : Type 1} → statement M
-lay-plain-spec =
+pub lay_plain_spec : {M : Type 1} → statement M
+lay_plain_spec =
     tie.close
     (tie.spec
     (λ c κs. search rules)

@@ -4,8 +4,8 @@ use borrow.Author.Tests.{eq-eqb, ne_eqb}
 use Rattle.writing.proofs.take_aim.Statement.{statement}
 use Rattle.writing.proofs.take_aim.Tie as tie
 
-pub take-aim-spec : {M : Type 1} → statement M
-take-aim-spec =
+pub take_aim_spec : {M : Type 1} → statement M
+take_aim_spec =
     tie.close
     (tie.spec
     (λ c. search rules)

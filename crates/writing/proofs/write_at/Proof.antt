@@ -4,8 +4,8 @@ use Rattle.writing.proofs.Laying.{stored-groups}
 use Rattle.writing.proofs.write_at.Statement.{statement}
 use Rattle.writing.proofs.write_at.Tie as tie
 
-pub write-at-spec : {M : Type 1} → statement M
-write-at-spec =
+pub write_at_spec : {M : Type 1} → statement M
+write_at_spec =
     tie.close
     (tie.spec
     -- erase-and-lay-requires

@@ -17,9 +17,9 @@ right c =
     sym (sound-width a.requires _ _ (c.before.before.before.order.ensures a.args.v.now)) ∙ sym c.before.is-sound.ensures
     ∙ not-false _ c.if1.false
 
-pub write-granted-spec : {M : Type 1} → statement M
+pub write_granted_spec : {M : Type 1} → statement M
 unfolding over_range
-write-granted-spec =
+write_granted_spec =
     tie.close
     (tie.spec
     (λ c κs. search rules)

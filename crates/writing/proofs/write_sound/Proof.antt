@@ -21,8 +21,8 @@ aimed c =
     let a = l.before.before.before.before.before in
     aims a.requires.0 a.args.x _ a.requires.2 a.requires.1 l.look_at.ensures.0 _ (sym aim.aim.given.1 ∙ aim.before.before.take-aim.ensures)
 
-pub write-sound-spec : {M : Type 1} → statement M
-write-sound-spec =
+pub write_sound_spec : {M : Type 1} → statement M
+write_sound_spec =
     tie.close
     (tie.spec
     -- look-at-requires

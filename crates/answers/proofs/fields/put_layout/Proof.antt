@@ -4,8 +4,8 @@ use Rattle.code.proofs.LayoutCall.{reply-enough}
 use Rattle.answers.proofs.fields.put_layout.Statement.{statement}
 use Rattle.answers.proofs.fields.put_layout.Tie as tie
 
-pub put-layout-spec : {M : Type 1} → statement M
-put-layout-spec =
+pub put_layout_spec : {M : Type 1} → statement M
+put_layout_spec =
     tie.close
     (tie.spec
     (λ c κs. search rules)

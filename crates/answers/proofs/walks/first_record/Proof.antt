@@ -18,8 +18,8 @@ opened-within : (bytes : List ℕ) (r : Opened) → opened_reply r ≡ open_repl
 opened-within bytes (Records start layouts) e = first-within bytes e
 opened-within bytes (Barred halt) e = tt
 
-pub first-record-spec : {M : Type 1} → statement M
-first-record-spec =
+pub first_record_spec : {M : Type 1} → statement M
+first_record_spec =
     tie.close
     (tie.spec
     (λ c. search rules)

@@ -27,8 +27,8 @@ onward-here c =
     let on = eqb-true _ 0 (not-false _ c.if2.false) in
     walked-onward _ _ _ _ w.walk-on.result w.walk-on.ensures (omega arith) (omega arith) (omega arith) on
 
-pub put-all-records-spec : {M : Type 1} → statement M
-put-all-records-spec =
+pub put_all_records_spec : {M : Type 1} → statement M
+put_all_records_spec =
     tie.close
     (tie.spec
     invariant-loop

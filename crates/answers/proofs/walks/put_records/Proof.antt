@@ -15,8 +15,8 @@ invariant-loop out₀ at dump kind rows count width place₀ from₀ i₀ out pl
 abbrev decreases-loop : tie.decreases-loop
 decreases-loop out₀ at dump kind rows count width place₀ from₀ i₀ out place from i = count - i
 
-pub put-records-spec : {M : Type 1} → statement M
-put-records-spec =
+pub put_records_spec : {M : Type 1} → statement M
+put_records_spec =
     tie.close
     (tie.spec
     invariant-loop

@@ -3,8 +3,8 @@ use borrow.Author.Rules.{rules}
 use Rattle.answers.proofs.walks.put_walk.Statement.{statement}
 use Rattle.answers.proofs.walks.put_walk.Tie as tie
 
-pub put-walk-spec : {M : Type 1} → statement M
-put-walk-spec =
+pub put_walk_spec : {M : Type 1} → statement M
+put_walk_spec =
     tie.close
     (tie.spec
     (λ c κs. search rules)

@@ -3,8 +3,8 @@ use borrow.Author.Rules.{rules}
 use Rattle.answers.proofs.walks.walk_on.Statement.{statement}
 use Rattle.answers.proofs.walks.walk_on.Tie as tie
 
-pub walk-on-spec : {M : Type 1} → statement M
-walk-on-spec =
+pub walk_on_spec : {M : Type 1} → statement M
+walk_on_spec =
     tie.close
     (tie.spec
     (λ c. search rules)

@@ -6,8 +6,8 @@ use Rattle.dump.proofs.Keeping.{zeros-refused, none_said_lem}
 use Rattle.dump.proofs.kept.keep_none.Statement.{statement}
 use Rattle.dump.proofs.kept.keep_none.Tie as tie
 
-pub keep-none-spec : {M : Type 1} → statement M
-keep-none-spec =
+pub keep_none_spec : {M : Type 1} → statement M
+keep_none_spec =
     tie.close
     (tie.spec
     -- say-none-requires

@@ -3,8 +3,8 @@ use borrow.Author.Rules.{rules}
 use Rattle.dump.proofs.kept.renew.Statement.{statement}
 use Rattle.dump.proofs.kept.renew.Tie as tie
 
-pub renew-spec : {M : Type 1} → statement M
-renew-spec =
+pub renew_spec : {M : Type 1} → statement M
+renew_spec =
     tie.close
     (tie.spec
     -- same-said-requires

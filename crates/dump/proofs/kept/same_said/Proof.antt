@@ -5,8 +5,8 @@ use Rattle.dump.proofs.Keeping.{same-fields, not_same}
 use Rattle.dump.proofs.kept.same_said.Statement.{statement}
 use Rattle.dump.proofs.kept.same_said.Tie as tie
 
-pub same-said-spec : {M : Type 1} → statement M
-same-said-spec =
+pub same_said_spec : {M : Type 1} → statement M
+same_said_spec =
     tie.close
     (tie.spec
     -- returns

@@ -4,8 +4,8 @@ use borrow.Author.Rules.{rules}
 use Rattle.dump.proofs.kept.work_out.Statement.{statement}
 use Rattle.dump.proofs.kept.work_out.Tie as tie
 
-pub work-out-spec : {M : Type 1} → statement M
-work-out-spec =
+pub work_out_spec : {M : Type 1} → statement M
+work_out_spec =
     tie.close
     (tie.spec
     (λ c κs. search rules)

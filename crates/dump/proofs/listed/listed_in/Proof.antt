@@ -27,5 +27,5 @@ returns-2 c =
     let a = c.before.before.before.before.args in
     listed-some _ _ _ (omega (arith, layouts-many a.dump.now a.places.now)) c.listed-shape.ensures
 
-pub listed-in-spec : {M : Type 1} → statement M
-listed-in-spec = tie.close (tie.spec refuse-requires returns listed-shape-requires returns-2)
+pub listed_in_spec : {M : Type 1} → statement M
+listed_in_spec = tie.close (tie.spec refuse-requires returns listed-shape-requires returns-2)

@@ -10,8 +10,8 @@ use Rattle.dump.proofs.Naming.{listed-opened, listed-barred}
 use Rattle.dump.proofs.listed.listed_shape.Statement.{statement}
 use Rattle.dump.proofs.listed.listed_shape.Tie as tie
 
-pub listed-shape-spec : {M : Type 1} → statement M
-listed-shape-spec =
+pub listed_shape_spec : {M : Type 1} → statement M
+listed_shape_spec =
     tie.close
     (tie.spec
     (λ c κs. search rules)

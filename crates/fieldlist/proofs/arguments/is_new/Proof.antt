@@ -5,8 +5,8 @@ use Rattle.fieldlist.proofs.Words.{other_length, other_at, all_alike}
 use Rattle.fieldlist.proofs.arguments.is_new.Statement.{statement}
 use Rattle.fieldlist.proofs.arguments.is_new.Tie as tie
 
-pub is-new-spec : {M : Type 1} → statement M
-is-new-spec =
+pub is_new_spec : {M : Type 1} → statement M
+is_new_spec =
     tie.close
     (tie.spec
     -- returns

@@ -4,9 +4,9 @@ use Rattle.code.specs.Calls.{filled}
 use Rattle.gorvlime.proofs.c.flat_made.Statement.{statement}
 use Rattle.gorvlime.proofs.c.flat_made.Tie as tie
 
-pub flat-made-spec : {M : Type 1} → statement M
+pub flat_made_spec : {M : Type 1} → statement M
 unfolding filled
-flat-made-spec =
+flat_made_spec =
     tie.close
     (tie.spec
     (λ c. search rules)

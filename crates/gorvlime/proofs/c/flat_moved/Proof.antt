@@ -4,8 +4,8 @@ use Rattle.gorvlime.proofs.Laws.{moved-fields, malformed-fields, refusal-fields}
 use Rattle.gorvlime.proofs.c.flat_moved.Statement.{statement}
 use Rattle.gorvlime.proofs.c.flat_moved.Tie as tie
 
-pub flat-moved-spec : {M : Type 1} → statement M
-flat-moved-spec =
+pub flat_moved_spec : {M : Type 1} → statement M
+flat_moved_spec =
     tie.close
     (tie.spec
     (λ c. search rules)

@@ -4,8 +4,8 @@ use Rattle.gorvlime.proofs.Laws.{opened-fields, opened-halted}
 use Rattle.gorvlime.proofs.c.flat_opened.Statement.{statement}
 use Rattle.gorvlime.proofs.c.flat_opened.Tie as tie
 
-pub flat-opened-spec : {M : Type 1} → statement M
-flat-opened-spec =
+pub flat_opened_spec : {M : Type 1} → statement M
+flat_opened_spec =
     tie.close
     (tie.spec
     (λ c. search rules)

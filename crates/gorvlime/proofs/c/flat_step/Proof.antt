@@ -7,9 +7,9 @@ use Rattle.gorvlime.proofs.Laws.{found-record, found_none}
 use Rattle.gorvlime.proofs.c.flat_step.Statement.{statement}
 use Rattle.gorvlime.proofs.c.flat_step.Tie as tie
 
-pub flat-step-spec : {M : Type 1} → statement M
+pub flat_step_spec : {M : Type 1} → statement M
 unfolding cells_end
-flat-step-spec =
+flat_step_spec =
     tie.close
     (tie.spec
     (λ c. search rules)

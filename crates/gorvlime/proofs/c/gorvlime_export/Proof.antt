@@ -5,8 +5,8 @@ use Rattle.code.specs.Calls.{filled}
 use Rattle.gorvlime.proofs.c.gorvlime_export.Statement.{statement}
 use Rattle.gorvlime.proofs.c.gorvlime_export.Tie as tie
 
-pub gorvlime-export-spec : {M : Type 1} → statement M
-gorvlime-export-spec =
+pub gorvlime_export_spec : {M : Type 1} → statement M
+gorvlime_export_spec =
     tie.close
     (tie.spec
     (λ c κs. search rules)

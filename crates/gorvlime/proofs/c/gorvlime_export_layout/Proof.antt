@@ -5,8 +5,8 @@ use Rattle.code.specs.Calls.{filled}
 use Rattle.gorvlime.proofs.c.gorvlime_export_layout.Statement.{statement}
 use Rattle.gorvlime.proofs.c.gorvlime_export_layout.Tie as tie
 
-pub gorvlime-export-layout-spec : {M : Type 1} → statement M
-gorvlime-export-layout-spec =
+pub gorvlime_export_layout_spec : {M : Type 1} → statement M
+gorvlime_export_layout_spec =
     tie.close
     (tie.spec
     (λ c κs. search rules)

@@ -5,8 +5,8 @@ use Rattle.code.specs.Calls.{filled}
 use Rattle.gorvlime.proofs.c.gorvlime_export_record.Statement.{statement}
 use Rattle.gorvlime.proofs.c.gorvlime_export_record.Tie as tie
 
-pub gorvlime-export-record-spec : {M : Type 1} → statement M
-gorvlime-export-record-spec =
+pub gorvlime_export_record_spec : {M : Type 1} → statement M
+gorvlime_export_record_spec =
     tie.close
     (tie.spec
     (λ c κs. search rules)

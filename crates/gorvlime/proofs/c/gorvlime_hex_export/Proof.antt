@@ -5,8 +5,8 @@ use Rattle.code.specs.Calls.{filled}
 use Rattle.gorvlime.proofs.c.gorvlime_hex_export.Statement.{statement}
 use Rattle.gorvlime.proofs.c.gorvlime_hex_export.Tie as tie
 
-pub gorvlime-hex-export-spec : {M : Type 1} → statement M
-gorvlime-hex-export-spec =
+pub gorvlime_hex_export_spec : {M : Type 1} → statement M
+gorvlime_hex_export_spec =
     tie.close
     (tie.spec
     (λ c κs. search rules)

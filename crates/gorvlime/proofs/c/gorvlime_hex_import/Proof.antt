@@ -5,8 +5,8 @@ use Rattle.code.specs.Calls.{filled}
 use Rattle.gorvlime.proofs.c.gorvlime_hex_import.Statement.{statement}
 use Rattle.gorvlime.proofs.c.gorvlime_hex_import.Tie as tie
 
-pub gorvlime-hex-import-spec : {M : Type 1} → statement M
-gorvlime-hex-import-spec =
+pub gorvlime_hex_import_spec : {M : Type 1} → statement M
+gorvlime_hex_import_spec =
     tie.close
     (tie.spec
     (λ c κs. search rules)

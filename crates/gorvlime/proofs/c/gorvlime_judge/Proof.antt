@@ -5,8 +5,8 @@ use Rattle.code.specs.JudgeCall.{judge_fields}
 use Rattle.gorvlime.proofs.c.gorvlime_judge.Statement.{statement}
 use Rattle.gorvlime.proofs.c.gorvlime_judge.Tie as tie
 
-pub gorvlime-judge-spec : {M : Type 1} → statement M
-gorvlime-judge-spec =
+pub gorvlime_judge_spec : {M : Type 1} → statement M
+gorvlime_judge_spec =
     tie.close
     (tie.spec
     (λ c κs. search rules)

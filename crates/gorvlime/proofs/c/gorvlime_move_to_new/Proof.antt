@@ -5,8 +5,8 @@ use Rattle.gorvlime.specs.Fields.{offset_fields}
 use Rattle.gorvlime.proofs.c.gorvlime_move_to_new.Statement.{statement}
 use Rattle.gorvlime.proofs.c.gorvlime_move_to_new.Tie as tie
 
-pub gorvlime-move-to-new-spec : {M : Type 1} → statement M
-gorvlime-move-to-new-spec =
+pub gorvlime_move_to_new_spec : {M : Type 1} → statement M
+gorvlime_move_to_new_spec =
     tie.close
     (tie.spec
     (λ c κs. search rules)

@@ -5,8 +5,8 @@ use Rattle.gorvlime.specs.Fields.{offset_fields}
 use Rattle.gorvlime.proofs.c.gorvlime_move_to_old.Statement.{statement}
 use Rattle.gorvlime.proofs.c.gorvlime_move_to_old.Tie as tie
 
-pub gorvlime-move-to-old-spec : {M : Type 1} → statement M
-gorvlime-move-to-old-spec =
+pub gorvlime_move_to_old_spec : {M : Type 1} → statement M
+gorvlime_move_to_old_spec =
     tie.close
     (tie.spec
     (λ c κs. search rules)

@@ -5,8 +5,8 @@ use Rattle.gorvlime.specs.Fields.{offset_fields}
 use Rattle.gorvlime.proofs.c.gorvlime_open_new.Statement.{statement}
 use Rattle.gorvlime.proofs.c.gorvlime_open_new.Tie as tie
 
-pub gorvlime-open-new-spec : {M : Type 1} → statement M
-gorvlime-open-new-spec =
+pub gorvlime_open_new_spec : {M : Type 1} → statement M
+gorvlime_open_new_spec =
     tie.close
     (tie.spec
     (λ c κs. search rules)

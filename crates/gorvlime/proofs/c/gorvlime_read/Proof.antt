@@ -5,8 +5,8 @@ use Rattle.code.specs.Calls.{read_fields}
 use Rattle.gorvlime.proofs.c.gorvlime_read.Statement.{statement}
 use Rattle.gorvlime.proofs.c.gorvlime_read.Tie as tie
 
-pub gorvlime-read-spec : {M : Type 1} → statement M
-gorvlime-read-spec =
+pub gorvlime_read_spec : {M : Type 1} → statement M
+gorvlime_read_spec =
     tie.close
     (tie.spec
     (λ c κs. search rules)

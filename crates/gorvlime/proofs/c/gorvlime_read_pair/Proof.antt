@@ -5,8 +5,8 @@ use Rattle.code.specs.Pair.{pair_read_fields}
 use Rattle.gorvlime.proofs.c.gorvlime_read_pair.Statement.{statement}
 use Rattle.gorvlime.proofs.c.gorvlime_read_pair.Tie as tie
 
-pub gorvlime-read-pair-spec : {M : Type 1} → statement M
-gorvlime-read-pair-spec =
+pub gorvlime_read_pair_spec : {M : Type 1} → statement M
+gorvlime_read_pair_spec =
     tie.close
     (tie.spec
     (λ c κs. search rules)

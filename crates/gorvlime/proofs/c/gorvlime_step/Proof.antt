@@ -9,9 +9,9 @@ use Rattle.gorvlime.proofs.Laws.{step_fits}
 use Rattle.gorvlime.proofs.c.gorvlime_step.Statement.{statement}
 use Rattle.gorvlime.proofs.c.gorvlime_step.Tie as tie
 
-pub gorvlime-step-spec : {M : Type 1} → statement M
+pub gorvlime_step_spec : {M : Type 1} → statement M
 unfolding found_fields
-gorvlime-step-spec =
+gorvlime_step_spec =
     tie.close
     (tie.spec
     (λ c κs. search rules)

@@ -6,8 +6,8 @@ use Rattle.gorvlime.proofs.Laws.{step_fits}
 use Rattle.gorvlime.proofs.c.gorvlime_step_new.Statement.{statement}
 use Rattle.gorvlime.proofs.c.gorvlime_step_new.Tie as tie
 
-pub gorvlime-step-new-spec : {M : Type 1} → statement M
-gorvlime-step-new-spec =
+pub gorvlime_step_new_spec : {M : Type 1} → statement M
+gorvlime_step_new_spec =
     tie.close
     (tie.spec
     (λ c κs. search rules)

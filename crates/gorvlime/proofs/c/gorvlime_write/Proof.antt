@@ -5,8 +5,8 @@ use Rattle.code.specs.Calls.{write_fields}
 use Rattle.gorvlime.proofs.c.gorvlime_write.Statement.{statement}
 use Rattle.gorvlime.proofs.c.gorvlime_write.Tie as tie
 
-pub gorvlime-write-spec : {M : Type 1} → statement M
-gorvlime-write-spec =
+pub gorvlime_write_spec : {M : Type 1} → statement M
+gorvlime_write_spec =
     tie.close
     (tie.spec
     (λ c κs. search rules)

@@ -5,8 +5,8 @@ use Rattle.code.specs.Pair.{pair_write_fields}
 use Rattle.gorvlime.proofs.c.gorvlime_write_pair.Statement.{statement}
 use Rattle.gorvlime.proofs.c.gorvlime_write_pair.Tie as tie
 
-pub gorvlime-write-pair-spec : {M : Type 1} → statement M
-gorvlime-write-pair-spec =
+pub gorvlime_write_pair_spec : {M : Type 1} → statement M
+gorvlime_write_pair_spec =
     tie.close
     (tie.spec
     (λ c κs. search rules)

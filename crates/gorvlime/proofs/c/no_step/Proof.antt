@@ -5,8 +5,8 @@ use Rattle.gorvlime.proofs.Laws.{found-halted}
 use Rattle.gorvlime.proofs.c.no_step.Statement.{statement}
 use Rattle.gorvlime.proofs.c.no_step.Tie as tie
 
-pub no-step-spec : {M : Type 1} → statement M
-no-step-spec =
+pub no_step_spec : {M : Type 1} → statement M
+no_step_spec =
     tie.close
     (tie.spec
     -- flat-halt-requires

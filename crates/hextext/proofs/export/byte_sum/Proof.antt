@@ -16,9 +16,9 @@ invariant-loop bytes sum₀ i₀ sum i = (i ≤ length bytes) × (sum ≤ 255 * 
 abbrev decreases-loop : tie.decreases-loop
 decreases-loop bytes sum₀ i₀ sum i = length bytes - i
 
-pub byte-sum-spec : {M : Type 1} → statement M
+pub byte_sum_spec : {M : Type 1} → statement M
 unfolding list_sum
-byte-sum-spec =
+byte_sum_spec =
     tie.close
     (tie.spec
     invariant-loop

@@ -5,9 +5,9 @@ use Rattle.code.specs.Hex.{hex_digit}
 use Rattle.hextext.proofs.export.hex_digit.Statement.{statement}
 use Rattle.hextext.proofs.export.hex_digit.Tie as tie
 
-pub hex-digit-spec : {M : Type 1} → statement M
+pub hex_digit_spec : {M : Type 1} → statement M
 unfolding hex_digit
-hex-digit-spec =
+hex_digit_spec =
     tie.close
     (tie.spec
     -- add-result

@@ -18,9 +18,9 @@ invariant-loop out₀ at bytes next₀ i₀ out next i = (i ≤ length bytes) ×
 abbrev decreases-loop : tie.decreases-loop
 decreases-loop out₀ at bytes next₀ i₀ out next i = length bytes - i
 
-pub put-all-digits-spec : {M : Type 1} → statement M
+pub put_all_digits_spec : {M : Type 1} → statement M
 unfolding hex_digits
-put-all-digits-spec =
+put_all_digits_spec =
     tie.close
     (tie.spec
     invariant-loop

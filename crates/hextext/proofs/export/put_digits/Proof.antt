@@ -7,9 +7,9 @@ use Rattle.code.specs.Hex.{hex_digits}
 use Rattle.hextext.proofs.export.put_digits.Statement.{statement}
 use Rattle.hextext.proofs.export.put_digits.Tie as tie
 
-pub put-digits-spec : {M : Type 1} → statement M
+pub put_digits_spec : {M : Type 1} → statement M
 unfolding hex_digits
-put-digits-spec =
+put_digits_spec =
     tie.close
     (tie.spec
     -- hex-digit-requires

@@ -7,9 +7,9 @@ use Rattle.code.specs.Hex.{end_record}
 use Rattle.hextext.proofs.export.put_end.Statement.{statement}
 use Rattle.hextext.proofs.export.put_end.Tie as tie
 
-pub put-end-spec : {M : Type 1} → statement M
+pub put_end_spec : {M : Type 1} → statement M
 unfolding ascii end_record
-put-end-spec =
+put_end_spec =
     tie.close
     (tie.spec
     -- slice-aggregate-put-bytes

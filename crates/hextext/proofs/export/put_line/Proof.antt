@@ -8,9 +8,9 @@ use Rattle.hextext.proofs.Outward.{line-splits}
 use Rattle.hextext.proofs.export.put_line.Statement.{statement}
 use Rattle.hextext.proofs.export.put_line.Tie as tie
 
-pub put-line-spec : {M : Type 1} → statement M
+pub put_line_spec : {M : Type 1} → statement M
 unfolding hex_digits
-put-line-spec =
+put_line_spec =
     tie.close
     (tie.spec
     -- cast-put-digits

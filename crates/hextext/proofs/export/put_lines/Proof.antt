@@ -13,8 +13,8 @@ invariant-loop out₀ bytes at₀ i₀ out at i = Lining out₀ bytes out at i
 abbrev decreases-loop : tie.decreases-loop
 decreases-loop out₀ bytes at₀ i₀ out at i = length bytes - i
 
-pub put-lines-spec : {M : Type 1} → statement M
-put-lines-spec =
+pub put_lines_spec : {M : Type 1} → statement M
+put_lines_spec =
     tie.close
     (tie.spec
     invariant-loop

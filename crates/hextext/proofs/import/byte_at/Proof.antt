@@ -8,9 +8,9 @@ use Rattle.code.specs.Hex.{digit_number, spelled_byte}
 use Rattle.hextext.proofs.import.byte_at.Statement.{statement}
 use Rattle.hextext.proofs.import.byte_at.Tie as tie
 
-pub byte-at-spec : {M : Type 1} → statement M
+pub byte_at_spec : {M : Type 1} → statement M
 unfolding spelled_byte
-byte-at-spec =
+byte_at_spec =
     tie.close
     (tie.spec
     -- mul-digit-number

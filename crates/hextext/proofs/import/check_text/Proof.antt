@@ -34,8 +34,8 @@ next : (c : tie.After-known-told3 invariant-loop decreases-loop) → let tested 
     Checking tested.before.before.before.before.args.text.now (s.at + c.before.count.given.0.1.0) (s.done + c.before.count.given.0.0)
 next c = checking-next c.before.before.before.before.before.loop.invariant _ _ (taken c)
 
-pub check-text-spec : {M : Type 1} → statement M
-check-text-spec =
+pub check_text_spec : {M : Type 1} → statement M
+check_text_spec =
     tie.close
     (tie.spec
     invariant-loop

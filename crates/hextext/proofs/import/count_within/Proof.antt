@@ -23,8 +23,8 @@ none_told line room n = record { within = λ h. absurd (omega arith); own = λ s
 count-told : (c : tie.After-byte-at) → data_count c.before.before.before.args.line.now ≡ c.byte-at.result
 count-told c = count-is c.before.before.before.args.line.now ∙ sym c.byte-at.ensures.0
 
-pub count-within-spec : {M : Type 1} → statement M
-count-within-spec =
+pub count_within_spec : {M : Type 1} → statement M
+count_within_spec =
     tie.close
     (tie.spec
     -- returns

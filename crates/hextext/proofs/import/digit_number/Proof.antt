@@ -6,9 +6,9 @@ use Rattle.code.specs.Hex.{digit_number}
 use Rattle.hextext.proofs.import.digit_number.Statement.{statement}
 use Rattle.hextext.proofs.import.digit_number.Tie as tie
 
-pub digit-number-spec : {M : Type 1} → statement M
+pub digit_number_spec : {M : Type 1} → statement M
 unfolding digit_number
-digit-number-spec =
+digit_number_spec =
     tie.close
     (tie.spec
     -- returns

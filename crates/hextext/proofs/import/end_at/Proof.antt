@@ -11,9 +11,9 @@ use Rattle.code.specs.Hex.{line_end}
 use Rattle.hextext.proofs.import.end_at.Statement.{statement}
 use Rattle.hextext.proofs.import.end_at.Tie as tie
 
-pub end-at-spec : {M : Type 1} → statement M
+pub end_at_spec : {M : Type 1} → statement M
 unfolding line_end
-end-at-spec =
+end_at_spec =
     tie.close
     (tie.spec
     -- shared-slice-read-if1

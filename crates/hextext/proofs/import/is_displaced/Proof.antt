@@ -7,8 +7,8 @@ use Rattle.hextext.proofs.Inward.{room-left}
 use Rattle.hextext.proofs.import.is_displaced.Statement.{statement}
 use Rattle.hextext.proofs.import.is_displaced.Tie as tie
 
-pub is-displaced-spec : {M : Type 1} → statement M
-is-displaced-spec =
+pub is_displaced_spec : {M : Type 1} → statement M
+is_displaced_spec =
     tie.close
     (tie.spec
     -- returns

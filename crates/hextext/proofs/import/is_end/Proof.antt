@@ -17,9 +17,9 @@ invariant-loop line i₀ end i = (i ≤ 5) × ((k : ℕ) → k < i → byte_at l
 abbrev decreases-loop : tie.decreases-loop
 decreases-loop line i₀ end i = 5 - i
 
-pub is-end-spec : {M : Type 1} → statement M
+pub is_end_spec : {M : Type 1} → statement M
 unfolding end_record ascii
-is-end-spec =
+is_end_spec =
     tie.close
     (tie.spec
     invariant-loop

@@ -4,8 +4,8 @@ use borrow.Author.Tests.{ne_eqb}
 use Rattle.hextext.proofs.import.is_laden_end.Statement.{statement}
 use Rattle.hextext.proofs.import.is_laden_end.Tie as tie
 
-pub is-laden-end-spec : {M : Type 1} → statement M
-is-laden-end-spec =
+pub is_laden_end_spec : {M : Type 1} → statement M
+is_laden_end_spec =
     tie.close
     (tie.spec
     -- returns

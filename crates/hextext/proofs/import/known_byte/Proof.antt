@@ -7,8 +7,8 @@ use Rattle.code.proofs.HexLines.{spelled-digits}
 use Rattle.hextext.proofs.import.known_byte.Statement.{statement}
 use Rattle.hextext.proofs.import.known_byte.Tie as tie
 
-pub known-byte-spec : {M : Type 1} → statement M
-known-byte-spec =
+pub known_byte_spec : {M : Type 1} → statement M
+known_byte_spec =
     tie.close
     (tie.spec
     (λ c. search rules)

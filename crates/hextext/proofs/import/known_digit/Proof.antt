@@ -6,8 +6,8 @@ use Rattle.code.proofs.HexLines.{digit-known}
 use Rattle.hextext.proofs.import.known_digit.Statement.{statement}
 use Rattle.hextext.proofs.import.known_digit.Tie as tie
 
-pub known-digit-spec : {M : Type 1} → statement M
-known-digit-spec =
+pub known_digit_spec : {M : Type 1} → statement M
+known_digit_spec =
     tie.close
     (tie.spec
     -- mul-result

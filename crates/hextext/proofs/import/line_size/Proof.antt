@@ -3,8 +3,8 @@ use borrow.Author.Rules.{rules}
 use Rattle.hextext.proofs.import.line_size.Statement.{statement}
 use Rattle.hextext.proofs.import.line_size.Tie as tie
 
-pub line-size-spec : {M : Type 1} → statement M
-line-size-spec =
+pub line_size_spec : {M : Type 1} → statement M
+line_size_spec =
     tie.close
     (tie.spec
     -- mul-behind

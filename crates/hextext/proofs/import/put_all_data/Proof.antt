@@ -83,8 +83,8 @@ next c w =
     let size : c.line-size.result ≡ line_size (line_of inside) = rw same at (sized c).0 in
     rw size (loaded-next stored inside.loop-test.true _ _ (made (sym same, (loaded-shaped stored inside.loop-test.true).bytes)))
 
-pub put-all-data-spec : {M : Type 1} → statement M
-put-all-data-spec =
+pub put_all_data_spec : {M : Type 1} → statement M
+put_all_data_spec =
     tie.close
     (tie.spec
     invariant-loop

@@ -39,8 +39,8 @@ next c d =
     let byte : c.known-byte.result ≡ get_or (line_data line) s.i 0 = omega (arith, c.known-byte.ensures spelled, there) in
     rw (← add_assoc, add-one s.i) (storing-first (rw left at (s.invariant.2 d)) refl byte)
 
-pub put-data-spec : {M : Type 1} → statement M
-put-data-spec =
+pub put_data_spec : {M : Type 1} → statement M
+put_data_spec =
     tie.close
     (tie.spec
     invariant-loop

@@ -22,9 +22,9 @@ invariant-loop line n sum₀ i₀ sum i =
 abbrev decreases-loop : tie.decreases-loop
 decreases-loop line n sum₀ i₀ sum i = n - i
 
-pub sum-spelled-spec : {M : Type 1} → statement M
+pub sum_spelled_spec : {M : Type 1} → statement M
 unfolding all_spelled list_sum
-sum-spelled-spec =
+sum_spelled_spec =
     tie.close
     (tie.spec
     invariant-loop

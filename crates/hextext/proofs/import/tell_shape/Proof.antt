@@ -26,8 +26,8 @@ end-told : (c : tie.After-end-at) → let counted = c.before.before.before in
     c.end-at.result ≡ line_end (drop (11 + 2 * data_count (line_of counted)) (line_of counted))
 end-told c = rw (count-told c.before.before.before) c.end-at.ensures.0
 
-pub tell-shape-spec : {M : Type 1} → statement M
-tell-shape-spec =
+pub tell_shape_spec : {M : Type 1} → statement M
+tell_shape_spec =
     tie.close
     (tie.spec
     -- returns

@@ -7,8 +7,8 @@ use Rattle.hextext.specs.Answers.{TellsShape}
 use Rattle.hextext.proofs.import.test_line.Statement.{statement}
 use Rattle.hextext.proofs.import.test_line.Tie as tie
 
-pub test-line-spec : {M : Type 1} → statement M
-test-line-spec =
+pub test_line_spec : {M : Type 1} → statement M
+test_line_spec =
     tie.close
     (tie.spec
     -- returns

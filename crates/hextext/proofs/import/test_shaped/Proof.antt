@@ -46,8 +46,8 @@ passes c =
     let n = numbered bare-here.before.before in
     line-passes _ _ n.decreases.shaped (bare bare-here) (summed summed-here) (placed c.before) (omega (arith, n.type-told))
 
-pub test-shaped-spec : {M : Type 1} → statement M
-test-shaped-spec =
+pub test_shaped_spec : {M : Type 1} → statement M
+test_shaped_spec =
     tie.close
     (tie.spec
     -- byte-at-requires

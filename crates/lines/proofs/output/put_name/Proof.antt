@@ -12,8 +12,8 @@ invariant-loop out at name count₀ count = count ≤ 6
 abbrev decreases-loop : tie.decreases-loop
 decreases-loop out at name count₀ count = 6 - count
 
-pub put-name-spec : {M : Type 1} → statement M
-put-name-spec =
+pub put_name_spec : {M : Type 1} → statement M
+put_name_spec =
     tie.close
     (tie.spec
     invariant-loop

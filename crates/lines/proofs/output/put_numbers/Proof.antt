@@ -12,8 +12,8 @@ invariant-loop out₀ at numbers place₀ i₀ out place i = (place ≤ text_mos
 abbrev decreases-loop : tie.decreases-loop
 decreases-loop out₀ at numbers place₀ i₀ out place i = length numbers - i
 
-pub put-numbers-spec : {M : Type 1} → statement M
-put-numbers-spec =
+pub put_numbers_spec : {M : Type 1} → statement M
+put_numbers_spec =
     tie.close
     (tie.spec
     invariant-loop

@@ -12,8 +12,8 @@ invariant-loop out₀ at bytes place₀ i₀ out place i = (place ≤ text_most)
 abbrev decreases-loop : tie.decreases-loop
 decreases-loop out₀ at bytes place₀ i₀ out place i = length bytes - i
 
-pub put-octets-spec : {M : Type 1} → statement M
-put-octets-spec =
+pub put_octets_spec : {M : Type 1} → statement M
+put_octets_spec =
     tie.close
     (tie.spec
     invariant-loop

@@ -11,8 +11,8 @@ invariant-loop out₀ at reply numbers place₀ i₀ out place i = (place ≤ te
 abbrev decreases-loop : tie.decreases-loop
 decreases-loop out₀ at reply numbers place₀ i₀ out place i = reply.count - i
 
-pub put-reply-spec : {M : Type 1} → statement M
-put-reply-spec =
+pub put_reply_spec : {M : Type 1} → statement M
+put_reply_spec =
     tie.close
     (tie.spec
     invariant-loop

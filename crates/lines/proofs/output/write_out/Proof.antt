@@ -5,8 +5,8 @@ use lib.ListN.{length-take}
 use Rattle.lines.proofs.output.write_out.Statement.{statement}
 use Rattle.lines.proofs.output.write_out.Tie as tie
 
-pub write-out-spec : {M : Type 1} → statement M
-write-out-spec =
+pub write_out_spec : {M : Type 1} → statement M
+write_out_spec =
     tie.close
     (tie.spec
     -- slice-aggregate-write-all

@@ -40,8 +40,8 @@ next c =
     collecting-next _ _ l.before.before.before.before.requires.0 l.loop.invariant _ e _
     (c.new-length.ensures _ (cells_count Old _ _ _ e) ∙ ap length (number-less _ _)) _ _ (λ ls kept. rw (own-said _ _ _) (k.keep-layout.ensures ls kept))
 
-pub collect-spec : {M : Type 1} → statement M
-collect-spec =
+pub collect_spec : {M : Type 1} → statement M
+collect_spec =
     tie.close
     (tie.spec
     invariant-loop

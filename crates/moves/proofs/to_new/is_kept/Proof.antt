@@ -4,8 +4,8 @@ use Rattle.moves.proofs.Keeping.{unlike-v, unlike-t, unlike-m, by_form}
 use Rattle.moves.proofs.to_new.is_kept.Statement.{statement}
 use Rattle.moves.proofs.to_new.is_kept.Tie as tie
 
-pub is-kept-spec : {M : Type 1} → statement M
-is-kept-spec =
+pub is_kept_spec : {M : Type 1} → statement M
+is_kept_spec =
     tie.close
     (tie.spec
     (λ c. search rules)

@@ -6,8 +6,8 @@ use Rattle.moves.proofs.Keeping.{keeps-over, keeps-known, keeps-full, keeps-more
 use Rattle.moves.proofs.to_new.keep_layout.Statement.{statement}
 use Rattle.moves.proofs.to_new.keep_layout.Tie as tie
 
-pub keep-layout-spec : {M : Type 1} → statement M
-keep-layout-spec =
+pub keep_layout_spec : {M : Type 1} → statement M
+keep_layout_spec =
     tie.close
     (tie.spec
     -- returns

@@ -7,8 +7,8 @@ use Rattle.moves.proofs.ToNew.{moves-new}
 use Rattle.moves.proofs.to_new.move_records.Statement.{statement}
 use Rattle.moves.proofs.to_new.move_records.Tie as tie
 
-pub move-records-spec : {M : Type 1} → statement M
-move-records-spec =
+pub move_records_spec : {M : Type 1} → statement M
+move_records_spec =
     tie.close
     (tie.spec
     (λ c. search rules)

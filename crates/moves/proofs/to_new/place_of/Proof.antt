@@ -15,8 +15,8 @@ invariant-loop kept count said i₀ i = (i ≤ count) × (i ≡ place_of (kept_l
 abbrev decreases-loop : tie.decreases-loop
 decreases-loop kept count said i₀ i = count - i
 
-pub place-of-spec : {M : Type 1} → statement M
-place-of-spec =
+pub place_of_spec : {M : Type 1} → statement M
+place_of_spec =
     tie.close
     (tie.spec
     invariant-loop

@@ -6,8 +6,8 @@ use Rattle.storing.proofs.Put.{put_then, put-length}
 use Rattle.moves.proofs.to_new.put_list.Statement.{statement}
 use Rattle.moves.proofs.to_new.put_list.Tie as tie
 
-pub put-list-spec : {M : Type 1} → statement M
-put-list-spec =
+pub put_list_spec : {M : Type 1} → statement M
+put_list_spec =
     tie.close
     (tie.spec
     (λ c. search rules)

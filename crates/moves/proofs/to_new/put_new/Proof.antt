@@ -29,8 +29,8 @@ room c =
     let s = c.before.before.before.before.before in
     fits-room s.args.out.now s.args.place (moved s) (told c.before) s.requires.3 c.if1.false
 
-pub put-new-spec : {M : Type 1} → statement M
-put-new-spec =
+pub put_new_spec : {M : Type 1} → statement M
+put_new_spec =
     tie.close
     (tie.spec
     (λ c. search rules)

@@ -49,8 +49,8 @@ moved_here c =
     let r = head_record (source_of Old a.dump.now a.places.now) h in
     number_at _ _ r _ (c.place-of.ensures ∙ rw (own-said a.dump.now a.places.now h.said))
 
-pub put-records-spec : {M : Type 1} → statement M
-put-records-spec =
+pub put_records_spec : {M : Type 1} → statement M
+put_records_spec =
     tie.close
     (tie.spec
     invariant-loop

@@ -16,8 +16,8 @@ invariant-loop dump places i₀ i = (i ≤ length places) × (foreign (layouts_a
 abbrev decreases-loop : tie.decreases-loop
 decreases-loop dump places i₀ i = length places - i
 
-pub has-foreign-spec : {M : Type 1} → statement M
-has-foreign-spec =
+pub has_foreign_spec : {M : Type 1} → statement M
+has_foreign_spec =
     tie.close
     (tie.spec
     invariant-loop

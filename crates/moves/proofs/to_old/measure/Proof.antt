@@ -48,8 +48,8 @@ next c =
     let long = c.old-length.ensures cells (cells_count New _ _ _ (here h)) ∙ ap (λ n. length (record_of n cells)) same in
     measuring-next _ _ _ _ _ _ a.requires l.loop.invariant.0 _ (here h) _ (long ∙ ap length (old-at [] _ _))
 
-pub measure-spec : {M : Type 1} → statement M
-measure-spec =
+pub measure_spec : {M : Type 1} → statement M
+measure_spec =
     tie.close
     (tie.spec
     invariant-loop

@@ -38,8 +38,8 @@ room-here c =
     let a = n.before.before.before.before.before.before.before.before.before.before.args in
     move-room _ 12 _ (to_old a.dump.now) a.out.now w.0 (passes-here n.before) _ _ w.1 n.refuse-length.ensures c.if2.false
 
-pub move-records-spec : {M : Type 1} → statement M
-move-records-spec =
+pub move_records_spec : {M : Type 1} → statement M
+move_records_spec =
     tie.close
     (tie.spec
     (λ c κs. search rules)

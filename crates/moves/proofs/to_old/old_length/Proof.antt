@@ -3,8 +3,8 @@ use borrow.Author.Rules.{rules}
 use Rattle.moves.proofs.to_old.old_length.Statement.{statement}
 use Rattle.moves.proofs.to_old.old_length.Tie as tie
 
-pub old-length-spec : {M : Type 1} → statement M
-old-length-spec =
+pub old_length_spec : {M : Type 1} → statement M
+old_length_spec =
     tie.close
     (tie.spec
     -- slice-aggregate-record-length

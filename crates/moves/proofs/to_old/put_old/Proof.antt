@@ -30,8 +30,8 @@ room c =
     let s = c.before.before.before.before.before in
     fits-room s.args.out.now s.args.place (moved s) (told c.before) s.requires.2 c.if1.false
 
-pub put-old-spec : {M : Type 1} → statement M
-put-old-spec =
+pub put_old_spec : {M : Type 1} → statement M
+put_old_spec =
     tie.close
     (tie.spec
     (λ c. search rules)

@@ -43,9 +43,9 @@ said_here : (c : tie.After-renew invariant-loop decreases-loop) →
     ≡ old_head (head_record (source_of New a.dump.now a.places.now) h.head.given.0.0)
 said_here c = old-head _ _ c.before.before.head.given.0.0 c.renew.result c.renew.ensures.1 c.renew.ensures.0
 
-pub put-records-spec : {M : Type 1} → statement M
+pub put_records_spec : {M : Type 1} → statement M
 unfolding entry_head cells_of
-put-records-spec =
+put_records_spec =
     tie.close
     (tie.spec
     invariant-loop

@@ -5,8 +5,8 @@ use Rattle.moves.proofs.ToOld.{says-old}
 use Rattle.moves.proofs.to_old.renew.Statement.{statement}
 use Rattle.moves.proofs.to_old.renew.Tie as tie
 
-pub renew-spec : {M : Type 1} → statement M
-renew-spec =
+pub renew_spec : {M : Type 1} → statement M
+renew_spec =
     tie.close
     (tie.spec
     -- returns

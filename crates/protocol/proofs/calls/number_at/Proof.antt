@@ -10,8 +10,8 @@ invariant-loop s at x₀ i₀ x i = i ≤ 8
 abbrev decreases-loop : tie.decreases-loop
 decreases-loop s at x₀ i₀ x i = i
 
-pub number-at-spec : {M : Type 1} → statement M
-number-at-spec =
+pub number_at_spec : {M : Type 1} → statement M
+number_at_spec =
     tie.close
     (tie.spec
     invariant-loop

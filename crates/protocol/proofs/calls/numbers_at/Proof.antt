@@ -12,8 +12,8 @@ invariant-loop s span numbers₀ i₀ numbers i = (length numbers ≡ length num
 abbrev decreases-loop : tie.decreases-loop
 decreases-loop s span numbers₀ i₀ numbers i = span.count - i
 
-pub numbers-at-spec : {M : Type 1} → statement M
-numbers-at-spec =
+pub numbers_at_spec : {M : Type 1} → statement M
+numbers_at_spec =
     tie.close
     (tie.spec
     invariant-loop

@@ -12,8 +12,8 @@ invariant-loop buffer₀ from count i₀ buffer i = (length buffer ≡ length bu
 abbrev decreases-loop : tie.decreases-loop
 decreases-loop buffer₀ from count i₀ buffer i = count - i
 
-pub move-to-front-spec : {M : Type 1} → statement M
-move-to-front-spec =
+pub move_to_front_spec : {M : Type 1} → statement M
+move_to_front_spec =
     tie.close
     (tie.spec
     invariant-loop

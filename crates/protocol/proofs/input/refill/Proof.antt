@@ -7,8 +7,8 @@ use borrow.Author.Tests.{ltb-false}
 use Rattle.protocol.proofs.input.refill.Statement.{statement}
 use Rattle.protocol.proofs.input.refill.Tie as tie
 
-pub refill-spec : {M : Type 1} → statement M
-refill-spec =
+pub refill_spec : {M : Type 1} → statement M
+refill_spec =
     tie.close
     (tie.spec
     -- returns

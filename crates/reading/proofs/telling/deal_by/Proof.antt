@@ -5,8 +5,8 @@ use Rattle.reading.proofs.Laws.{dealt-last, dealt-before}
 use Rattle.reading.proofs.telling.deal_by.Statement.{statement}
 use Rattle.reading.proofs.telling.deal_by.Tie as tie
 
-pub deal-by-spec : {M : Type 1} → statement M
-deal-by-spec =
+pub deal_by_spec : {M : Type 1} → statement M
+deal_by_spec =
     tie.close
     (tie.spec
     -- returns

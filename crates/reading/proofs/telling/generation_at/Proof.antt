@@ -16,8 +16,8 @@ returns c =
     generation-made a.requires.0 _ _ _ _ _ _ c.before.before.before.all_ones.ensures.0 (c.before.before.first.ensures.0 a.args.v.now)
     n.next-count.ensures c.before.deal-by.ensures c.range_at.ensures.0
 
-pub generation-at-spec : {M : Type 1} → statement M
-generation-at-spec =
+pub generation_at_spec : {M : Type 1} → statement M
+generation_at_spec =
     tie.close
     (tie.spec
     (λ c. search rules)

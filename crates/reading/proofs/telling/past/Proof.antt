@@ -21,8 +21,8 @@ decreases-loop h t z n₀ n = t - n
 count_at : (t : ℕ) (h : List ℕ) (n : ℕ) → 0 < n → n < t → get_or (take t h) (suc (n - 1)) 0 ≡ get_or h n 0
 count_at t h n l b = let e : suc (n - 1) ≡ n = omega arith in rw e (get_or-take t h n 0 b)
 
-pub past-spec : {M : Type 1} → statement M
-past-spec =
+pub past_spec : {M : Type 1} → statement M
+past_spec =
     tie.close
     (tie.spec
     invariant-loop

@@ -23,8 +23,8 @@ returns c = before-told c.before.before.dealing.given.1 _ _ c.tell-pattern.ensur
 returns-2 : tie.Need-returns-2
 returns-2 c = last-told c.before.before.before.dealing2.given.1 _ _ _ c.before.tell-digits.ensures c.less_one.ensures
 
-pub tell-spec : {M : Type 1} → statement M
-tell-spec =
+pub tell_spec : {M : Type 1} → statement M
+tell_spec =
     tie.close
     (tie.spec
     (λ c. search rules)

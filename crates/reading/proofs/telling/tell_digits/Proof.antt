@@ -4,8 +4,8 @@ use Rattle.reading.proofs.Looking.{digits-told}
 use Rattle.reading.proofs.telling.tell_digits.Statement.{statement}
 use Rattle.reading.proofs.telling.tell_digits.Tie as tie
 
-pub tell-digits-spec : {M : Type 1} → statement M
-tell-digits-spec =
+pub tell_digits_spec : {M : Type 1} → statement M
+tell_digits_spec =
     tie.close
     (tie.spec
     (λ c κs. search rules)

@@ -5,8 +5,8 @@ use Rattle.reading.proofs.Looking.{pattern-told, gathered-few}
 use Rattle.reading.proofs.telling.tell_pattern.Statement.{statement}
 use Rattle.reading.proofs.telling.tell_pattern.Tie as tie
 
-pub tell-pattern-spec : {M : Type 1} → statement M
-tell-pattern-spec =
+pub tell_pattern_spec : {M : Type 1} → statement M
+tell_pattern_spec =
     tie.close
     (tie.spec
     (λ c κs. search rules)

@@ -5,8 +5,8 @@ use Rattle.records.proofs.Layouts.{said-one, said-low, said-high, said-listed}
 use Rattle.records.proofs.list.ranges_said.Statement.{statement}
 use Rattle.records.proofs.list.ranges_said.Tie as tie
 
-pub ranges-said-spec : {M : Type 1} → statement M
-ranges-said-spec =
+pub ranges_said_spec : {M : Type 1} → statement M
+ranges_said_spec =
     tie.close
     (tie.spec
     (λ c. search rules)

@@ -5,8 +5,8 @@ use Rattle.records.proofs.Layouts.{there-cut, there-uncounted, ranges-cut, there
 use Rattle.records.proofs.list.read_layout.Statement.{statement}
 use Rattle.records.proofs.list.read_layout.Tie as tie
 
-pub read-layout-spec : {M : Type 1} → statement M
-read-layout-spec =
+pub read_layout_spec : {M : Type 1} → statement M
+read_layout_spec =
     tie.close
     (tie.spec
     (λ c. search rules)

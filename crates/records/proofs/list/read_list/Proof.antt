@@ -6,8 +6,8 @@ use Rattle.records.proofs.Listing.{count_cut, count-over, count-within}
 use Rattle.records.proofs.list.read_list.Statement.{statement}
 use Rattle.records.proofs.list.read_list.Tie as tie
 
-pub read-list-spec : {M : Type 1} → statement M
-read-list-spec =
+pub read_list_spec : {M : Type 1} → statement M
+read_list_spec =
     tie.close
     (tie.spec
     (λ c. search rules)

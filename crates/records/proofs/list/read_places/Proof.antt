@@ -14,8 +14,8 @@ invariant-loop dump at count places₀ start₀ i₀ v₀ places start i v = Lis
 abbrev decreases-loop : tie.decreases-loop
 decreases-loop dump at count places₀ start₀ i₀ v₀ places start i v = count - i
 
-pub read-places-spec : {M : Type 1} → statement M
-read-places-spec =
+pub read_places_spec : {M : Type 1} → statement M
+read_places_spec =
     tie.close
     (tie.spec
     invariant-loop

@@ -5,8 +5,8 @@ use Rattle.records.proofs.Layouts.{ranges-read}
 use Rattle.records.proofs.list.read_ranges.Statement.{statement}
 use Rattle.records.proofs.list.read_ranges.Tie as tie
 
-pub read-ranges-spec : {M : Type 1} → statement M
-read-ranges-spec =
+pub read_ranges_spec : {M : Type 1} → statement M
+read_ranges_spec =
     tie.close
     (tie.spec
     (λ c. search rules)

@@ -5,8 +5,8 @@ use Rattle.records.proofs.Layouts.{shape-whole, shape-broken}
 use Rattle.records.proofs.list.shape_at.Statement.{statement}
 use Rattle.records.proofs.list.shape_at.Tie as tie
 
-pub shape-at-spec : {M : Type 1} → statement M
-shape-at-spec =
+pub shape_at_spec : {M : Type 1} → statement M
+shape_at_spec =
     tie.close
     (tie.spec
     (λ c. search rules)

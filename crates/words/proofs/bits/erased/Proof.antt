@@ -4,8 +4,8 @@ use borrow.Author.Rules.{rules}
 use Rattle.words.proofs.bits.erased.Statement.{statement}
 use Rattle.words.proofs.bits.erased.Tie as tie
 
-pub erased-spec : {M : Type 1} → statement M
-erased-spec =
+pub erased_spec : {M : Type 1} → statement M
+erased_spec =
     tie.close
     (tie.spec
     (λ c. search rules)

@@ -4,8 +4,8 @@ use borrow.Author.Rules.{rules}
 use Rattle.words.proofs.bits.group_at.Statement.{statement}
 use Rattle.words.proofs.bits.group_at.Tie as tie
 
-pub group-at-spec : {M : Type 1} → statement M
-group-at-spec =
+pub group_at_spec : {M : Type 1} → statement M
+group_at_spec =
     tie.close
     (tie.spec
     (λ c. search rules)

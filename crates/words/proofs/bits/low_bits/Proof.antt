@@ -6,9 +6,9 @@ use native.Mathlib.Omega.{arith}
 use Rattle.words.proofs.bits.low_bits.Statement.{statement}
 use Rattle.words.proofs.bits.low_bits.Tie as tie
 
-pub low-bits-spec : {M : Type 1} → statement M
+pub low_bits_spec : {M : Type 1} → statement M
 unfolding lows word_groups word_bytes
-low-bits-spec =
+low_bits_spec =
     tie.close
     (tie.spec
     -- returns

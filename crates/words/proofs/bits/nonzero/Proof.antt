@@ -4,8 +4,8 @@ use borrow.Author.Rules.{rules}
 use Rattle.words.proofs.bits.nonzero.Statement.{statement}
 use Rattle.words.proofs.bits.nonzero.Tie as tie
 
-pub nonzero-spec : {M : Type 1} → statement M
-nonzero-spec =
+pub nonzero_spec : {M : Type 1} → statement M
+nonzero_spec =
     tie.close
     (tie.spec
     (λ c. search rules)

@@ -7,8 +7,8 @@ use borrow.Author.Rules.{rules}
 use Rattle.words.proofs.bits.open_marks.Statement.{statement}
 use Rattle.words.proofs.bits.open_marks.Tie as tie
 
-pub open-marks-spec : {M : Type 1} → statement M
-open-marks-spec =
+pub open_marks_spec : {M : Type 1} → statement M
+open_marks_spec =
     tie.close
     (tie.spec
     (λ c κs. search rules)

@@ -14,8 +14,8 @@ invariant-loop x count left₀ i₀ left i = (i ≤ count) × (left ≡ stripped
 abbrev decreases-loop : tie.decreases-loop
 decreases-loop x count left₀ i₀ left i = count - i
 
-pub skip-spec : {M : Type 1} → statement M
-skip-spec =
+pub skip_spec : {M : Type 1} → statement M
+skip_spec =
     tie.close
     (tie.spec
     invariant-loop

@@ -9,8 +9,8 @@ use borrow.Author.Rules.{rules}
 use Rattle.words.proofs.bits.strip.Statement.{statement}
 use Rattle.words.proofs.bits.strip.Tie as tie
 
-pub strip-spec : {M : Type 1} → statement M
-strip-spec =
+pub strip_spec : {M : Type 1} → statement M
+strip_spec =
     tie.close
     (tie.spec
     (λ c. search rules)

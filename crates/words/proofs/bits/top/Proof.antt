@@ -4,8 +4,8 @@ use borrow.Author.Rules.{rules}
 use Rattle.words.proofs.bits.top.Statement.{statement}
 use Rattle.words.proofs.bits.top.Tie as tie
 
-pub top-spec : {M : Type 1} → statement M
-top-spec =
+pub top_spec : {M : Type 1} → statement M
+top_spec =
     tie.close
     (tie.spec
     -- sub-result

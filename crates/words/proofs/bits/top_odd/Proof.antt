@@ -4,8 +4,8 @@ use native.Mathlib.Omega.{arith}
 use Rattle.words.proofs.bits.top_odd.Statement.{statement}
 use Rattle.words.proofs.bits.top_odd.Tie as tie
 
-pub top-odd-spec : {M : Type 1} → statement M
-top-odd-spec =
+pub top_odd_spec : {M : Type 1} → statement M
+top_odd_spec =
     tie.close
     (tie.spec
     -- sub-result

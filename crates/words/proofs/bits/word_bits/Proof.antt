@@ -4,9 +4,9 @@ use Rattle.words.specs.Words.{word_bytes}
 use Rattle.words.proofs.bits.word_bits.Statement.{statement}
 use Rattle.words.proofs.bits.word_bits.Tie as tie
 
-pub word-bits-spec : {M : Type 1} → statement M
+pub word_bits_spec : {M : Type 1} → statement M
 unfolding word_bytes
-word-bits-spec =
+word_bits_spec =
     tie.close
     (tie.spec
     -- returns

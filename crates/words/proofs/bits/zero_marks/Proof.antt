@@ -6,8 +6,8 @@ use borrow.Author.Rules.{rules}
 use Rattle.words.proofs.bits.zero_marks.Statement.{statement}
 use Rattle.words.proofs.bits.zero_marks.Tie as tie
 
-pub zero-marks-spec : {M : Type 1} → statement M
-zero-marks-spec =
+pub zero_marks_spec : {M : Type 1} → statement M
+zero_marks_spec =
     tie.close
     (tie.spec
     (λ c κs. search rules)
