@@ -31,11 +31,11 @@ unfolding triangle row along
 small = tt
 
 pub entry_spec : {M : Type 1} → statement M
-unfolding code.routine tables_of
-entry_spec 𝓤 𝓛 𝓜 𝓡 =
+unfolding tables_of
+entry_spec 𝓤 𝓛 𝓜 𝓡 wired =
     let w : World = record { M = _; 𝓤 = 𝓤; 𝓛 = 𝓛; 𝓜 = 𝓜; 𝓡 = 𝓡 } in
-    close 0 ps r reads.Ghost reads.requires reads.ensures reads.pre_read reads.Pinned reads.Owned reads.post_read w code.env name code.function
-    (code.unfolded 𝓤 𝓛.H 𝓜 𝓡) (λ κs a g. tt) (λ κs. reads.owns κs w) (reads.passes w)
-    (λ g. subst⁻¹ (λ (f : Fn). Triple 𝓤 (WpFn 𝓤 𝓛.H (Over 𝓛 𝓜 𝓡 code.env).C (Over 𝓛 𝓜 𝓡 code.env).Λ f) (plain_of 𝓛 0 ps r reads.Pre reads.Post)) tested
-    (gives-entry 𝓛 (Over 𝓛 𝓜 𝓡 code.env) (triangle 61) small reads.Pre reads.Post
+    close 0 ps r reads.Ghost reads.requires reads.ensures reads.pre_read reads.Pinned reads.Owned reads.post_read w 𝓡.env name code.function
+    (code.unfolded 𝓤 𝓛.H 𝓜 𝓡 wired) (λ κs a g. tt) (λ κs. reads.owns κs w) (reads.passes w)
+    (λ g. subst⁻¹ (λ (f : Fn). Triple 𝓤 (WpFn 𝓤 𝓛.H (Over 𝓛 𝓜 𝓡 𝓡.env).C (Over 𝓛 𝓜 𝓡 𝓡.env).Λ f) (plain_of 𝓛 0 ps r reads.Pre reads.Post)) tested
+    (gives-entry 𝓛 (Over 𝓛 𝓜 𝓡 𝓡.env) (triangle 61) small reads.Pre reads.Post
     (λ κs a e y here n k h l i. here ∙ ap (λ (j : ℕ). get_or (triangle 61) j 0) i ∙ carried 61 n k (omega arith) l)))
