@@ -15,19 +15,19 @@ binomial_spec =
     (λ c κs. search rules)
     -- clip-requires
     (λ c κs. search rules)
-    -- returns
+    -- returns-then-n-le-LAST_ROW
     (λ c. c.clip.ensures ∙ ap sat c.before.look_up.ensures)
-    -- returns-2
-    (λ c. let a = c.before.before.args in omega (arith, choose-above a.n a.k c.if2.true))
+    -- returns-then-n-k
+    (λ c. let a = c.before.before.args in omega (arith, choose-above a.n a.k c.if-n-k.true))
     -- closed-requires
     (λ c κs. search rules)
-    -- returns-3
+    -- returns-then-k-lt9
     (λ c. omega (arith, c.closed.ensures))
     -- half-requires
     (λ c κs. search rules)
-    -- returns-4
+    -- returns-then-n-k-2
     (λ c. let a = c.before.before.before.before.before.args in rw (symmetry a.n a.k (omega arith)) c.half.ensures)
     -- half-requires-2
     (λ c κs. search rules)
-    -- returns-5
-    (λ c. c.half2.ensures))
+    -- returns
+    (λ c. c.half-2.ensures))

@@ -12,14 +12,14 @@ four_spec =
     (tie.spec
     -- pair-requires
     (λ c κs. search rules)
-    -- sub-pair
+    -- overflow_sub-n
     (λ c. search rules)
     -- pair-requires-2
     (λ c κs. search rules)
-    -- mul-result
-    (λ c. omega (arith, mul-le-mul {n₁ = c.before.pair.result} {m₁ = c.pair2.result} {n₂ = 65280} {m₂ = 65280} (omega arith) (omega arith)))
+    -- overflow_mul-result
+    (λ c. omega (arith, mul-le-mul {n₁ = c.before.pair.result} {m₁ = c.pair-2.result} {n₂ = 65280} {m₂ = 65280} (omega arith) (omega arith)))
     -- returns
     (λ c. (
       cc (falling-add c.before.before.args.n 2 2),
-      omega (arith, mul-le-mul {n₁ = c.before.pair.result} {m₁ = c.pair2.result} {n₂ = 65280} {m₂ = 65280} (omega arith) (omega arith)),
+      omega (arith, mul-le-mul {n₁ = c.before.pair.result} {m₁ = c.pair-2.result} {n₂ = 65280} {m₂ = 65280} (omega arith) (omega arith)),
     )))

@@ -9,7 +9,7 @@ pub inner_spec : {M : Type 1} → statement M
 inner_spec =
     tie.close
     (tie.spec
-    -- sub-if1
+    -- overflow_sub-n
     (λ c. search rules)
     -- sub-look-up
     (λ c. search rules)
@@ -17,11 +17,11 @@ inner_spec =
     (λ c. search rules)
     -- look-up-requires
     (λ c κs. search rules)
-    -- returns
+    -- returns-then-n-le-LAST_ROW
     (λ c. c.look_up.ensures)
-    -- mul-result
+    -- overflow_mul-result
     (λ c. let s = c.before in let a = s.args in omega (arith, inner_room a.n a.k a.c (omega arith) s.requires.5 (omega arith) (omega arith) (omega arith)))
-    -- div-result
+    -- nonzero_div-result
     (λ c. search rules)
-    -- returns-2
+    -- returns
     (λ c. let s = c.before in let a = s.args in inner-is a.n a.k a.c (omega arith) s.requires.5 (omega arith) (omega arith)))

@@ -9,9 +9,9 @@ pub look_up_spec : {M : Type 1} → statement M
 look_up_spec =
     tie.close
     (tie.spec
-    -- returns
-    (λ c. omega (arith, choose-above c.before.args.n c.before.args.k c.if1.true))
+    -- returns-then-n-k
+    (λ c. omega (arith, choose-above c.before.args.n c.before.args.k c.if-n-k.true))
     -- stored-requires
     (λ c κs. search rules)
-    -- returns-2
+    -- returns
     (λ c. c.stored.ensures))

@@ -9,19 +9,19 @@ pub lower_spec : {M : Type 1} → statement M
 lower_spec =
     tie.close
     (tie.spec
-    -- sub-if1
+    -- overflow_sub-n
     (λ c. search rules)
     -- sub-look-up
     (λ c. search rules)
     -- look-up-requires
     (λ c κs. search rules)
-    -- returns
+    -- returns-then-n-le-LAST_ROW
     (λ c. c.look_up.ensures)
-    -- sub-result
+    -- overflow_sub-result
     (λ c. search rules)
-    -- mul-result
+    -- overflow_mul-result
     (λ c. let s = c.before in let a = s.args in omega (arith, lower-room a.n a.k a.c (omega arith) s.requires.4 (omega arith) (omega arith)))
-    -- div-result
+    -- nonzero_div-result
     (λ c. search rules)
-    -- returns-2
+    -- returns
     (λ c. let s = c.before in let a = s.args in lower-is a.n a.k a.c (omega arith) s.requires.4 (omega arith) (omega arith)))

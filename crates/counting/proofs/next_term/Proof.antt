@@ -11,11 +11,11 @@ next_term_spec =
     (tie.spec
     -- one-more-requires
     (λ c κs. search rules)
-    -- returns
-    (λ c. omega (arith, valued-far _ c.before.before.args.b (omega arith) c.before.one_more.ensures c.if1.true))
-    -- mul-clip
-    (λ c. omega (arith, valued-room _ c.before.before.args.b c.if1.false (omega arith)))
+    -- returns-then-q-ge-CAP
+    (λ c. omega (arith, valued-far _ c.before.before.args.b (omega arith) c.before.one_more-q.ensures c.if-q-ge-CAP.true))
+    -- overflow_mul-q
+    (λ c. omega (arith, valued-room _ c.before.before.args.b c.if-q-ge-CAP.false (omega arith)))
     -- clip-requires
     (λ c κs. search rules)
-    -- returns-2
-    (λ c. rw c.before.before.one_more.ensures at c.clip.ensures))
+    -- returns
+    (λ c. rw c.before.before.one_more-q.ensures at c.clip.ensures))

@@ -10,13 +10,13 @@ pub one_more_spec : {M : Type 1} → statement M
 one_more_spec =
     tie.close
     (tie.spec
-    -- sub-result
+    -- overflow_sub-result
     (λ c. search rules)
-    -- mul-result
+    -- overflow_mul-result
     (λ c. let a = c.args in omega (arith, term-room a.b a.s a.j a.term c.requires.4 (omega arith) (omega arith)))
-    -- add-result
+    -- overflow_add-result
     (λ c. search rules)
-    -- div-result
+    -- nonzero_div-result
     (λ c. search rules)
     -- returns
     (λ c. let a = c.args in term-next a.b a.s a.j a.term c.requires.4 _ (omega arith) refl))

@@ -11,9 +11,9 @@ pub pair_spec : {M : Type 1} → statement M
 pair_spec =
     tie.close
     (tie.spec
-    -- sub-result
+    -- overflow_sub-result
     (λ c. search rules)
-    -- mul-result
+    -- overflow_mul-result
     (λ c. let n = c.args.n in omega (arith, mul-le-mul {n₁ = n} {m₁ = n - 1} {n₂ = 256} {m₂ = 255} (omega arith) (omega arith)))
     -- returns
     (λ c.
