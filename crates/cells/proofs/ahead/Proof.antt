@@ -5,8 +5,8 @@ use Rattle.cells.proofs.Values.{from_start}
 use Rattle.cells.proofs.ahead.Statement.{statement}
 use Rattle.cells.proofs.ahead.Tie as tie
 
-returns : tie.Need-returns
-returns c = rw c.before.before.before.if1.true (from_start _ _ _ _ c.before.«start_of_lem».ensures c.eight.ensures)
+returns : tie.Need-returns-then-cells-ge8
+returns c = rw c.if-order-eq0.true (from_start _ _ _ _ c.start_of-start.ensures c.eight.ensures)
 
 pub ahead_spec : {M : Type 1} → statement M
 ahead_spec =

@@ -14,4 +14,4 @@ any_word_spec =
     (λ c. search rules)
     (λ c. search rules)
     (λ c. search rules)
-    (λ c. first-bytes _ _ _ c.before.before.args.size (omega arith) c.ahead.ensures))
+    (λ c. first-bytes _ _ _ c.args.size (omega arith) c.ahead.ensures))

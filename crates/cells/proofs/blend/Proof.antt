@@ -14,4 +14,4 @@ blend_spec =
     (λ c. search rules)
     (λ c. search rules)
     (λ c κs. search rules)
-    (λ c. rw c.«last-bits».ensures))
+    (λ c. rw c.last_bits.ensures))

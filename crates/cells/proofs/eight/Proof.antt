@@ -14,4 +14,4 @@ eight_spec =
     (λ c. search rules)
     (λ c κs. search rules)
     (λ c. search rules)
-    (λ c. (joined 0 _ _ 4 4 _ _ c.before.four.ensures.0 c.four2.ensures.0).0))
+    (λ c. (joined 0 _ _ 4 4 _ _ c.four.ensures.0 c.four-2.ensures.0).0))

@@ -9,26 +9,26 @@ use Rattle.cells.proofs.Values.{Reading, reading-first, reading-fits, reading-mo
 use Rattle.cells.proofs.few_bytes.Statement.{statement}
 use Rattle.cells.proofs.few_bytes.Tie as tie
 
-abbrev invariant-loop : tie.invariant-loop
+abbrev invariant-loop : tie.invariant-loop-i
 invariant-loop cells order at end x₀ i₀ x i = (i ≤ end) × End (length cells) at end × Reading order cells at i x
 
-abbrev decreases-loop : tie.decreases-loop
+abbrev decreases-loop : tie.decreases-loop-i
 decreases-loop cells order at end x₀ i₀ x i = end - i
 
-loop-holds : tie.Need-loop-init invariant-loop decreases-loop
+loop-holds : tie.Need-loop-i-init invariant-loop decreases-loop
 loop-holds c =
-    let E = c.before.before.before.«bytes-ahead».ensures in
+    let E = c.bytes_ahead.ensures in
     (omega (arith, E.some), E, reading-first _ _ _ _ (cc))
 
-add-x : tie.Need-overflow-add-x invariant-loop decreases-loop
+add-x : tie.Need-overflow_add-x invariant-loop decreases-loop
 add-x c =
-    let I = c.before.before.before.before.loop.invariant in
+    let I = c.loop-i.invariant in
     record { fits = omega (arith, reading-fits _ _ I.2 (omega (arith, I.1.near))) }
 
 returns : tie.Need-returns invariant-loop decreases-loop
 returns c =
-    let E = c.before.loop.invariant.1 in
-    reading-all _ _ c.before.loop.invariant.2 _ (omega arith) E.some E.near E.last
+    let E = c.loop-i.invariant.1 in
+    reading-all _ _ c.loop-i.invariant.2 _ (omega arith) E.some E.near E.last
 
 pub few_bytes_spec : {M : Type 1} → statement M
 few_bytes_spec =
@@ -37,20 +37,20 @@ few_bytes_spec =
     invariant-loop
     decreases-loop
     (λ c κs. search rules)
-    (λ c. record { fits = omega (arith, c.«bytes-ahead».ensures.near) })
+    (λ c. record { fits = omega (arith, c.bytes_ahead.ensures.near) })
     (λ c. search rules)
     (λ c κs. search rules)
     (λ c κs. search rules)
     (λ c. search rules)
     loop-holds
-    (λ c. record { fits = omega (arith, reading-fits _ _ c.before.loop.invariant.2 (omega (arith, c.before.loop.invariant.1.near))) })
+    (λ c. record { fits = omega (arith, reading-fits _ _ c.loop-i.invariant.2 (omega (arith, c.loop-i.invariant.1.near))) })
     (λ c. search rules)
     (λ c κs. search rules)
     (λ c κs. search rules)
     add-x
     (λ c. search rules)
     (λ c. search rules)
-    (λ c. (omega arith, c.before.before.before.before.loop.invariant.1, reading-more _ _ c.before.before.before.before.loop.invariant.2 _ (cc)))
+    (λ c. (omega arith, c.loop-i.invariant.1, reading-more _ _ c.loop-i.invariant.2 _ (cc)))
     (λ c. search rules)
     (λ c. search rules)
     (λ c. search rules)

@@ -7,9 +7,9 @@ use Rattle.cells.proofs.four.Statement.{statement}
 use Rattle.cells.proofs.four.Tie as tie
 
 returns : tie.Need-returns
-returns c = quad _ _ _ _ _ _ (λ i l. (c.before.before.before.before.before.before.before.before.«shared-slice-known».given i).fits) (omega arith)
-    c.before.before.before.before.before.before.wide.ensures.0
-    c.before.before.before.before.wide2.ensures.0 c.before.before.wide3.ensures.0 c.wide4.ensures.0
+returns c = quad _ _ _ _ _ _ (λ i l. (c.shared_slice_known-1.given i).fits) (omega arith)
+    c.wide.ensures.0
+    c.wide-2.ensures.0 c.wide-3.ensures.0 c.wide-4.ensures.0
 
 pub four_spec : {M : Type 1} → statement M
 four_spec =

@@ -11,5 +11,5 @@ octet_spec =
     tie.close
     (tie.spec
     (λ c κs. search rules)
-    (λ c. rw c.if1.true (sym (octet-high _ c.before.requires), search rules))
-    (λ c. (c.mirror.ensures.0 ∙ octet-low _ _ c.before.if1.false, search rules)))
+    (λ c. rw c.if-order-eq0.true (sym (octet-high _ c.requires), search rules))
+    (λ c. (c.mirror.ensures.0 ∙ octet-low _ _ c.if-order-eq0.false, search rules)))

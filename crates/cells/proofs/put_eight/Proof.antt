@@ -6,7 +6,7 @@ use Rattle.cells.proofs.put_eight.Statement.{statement}
 use Rattle.cells.proofs.put_eight.Tie as tie
 
 returns : tie.Need-returns
-returns c = put-bytes _ 4 4 _ c.before.before.before.before.before.before.«put_four».ensures c.before.before.«put-four2».ensures
+returns c = put-bytes _ 4 4 _ c.put_four.ensures c.put_four-2.ensures
 
 pub put_eight_spec : {M : Type 1} → statement M
 put_eight_spec =

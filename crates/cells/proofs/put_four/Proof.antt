@@ -6,7 +6,7 @@ use Rattle.cells.proofs.put_four.Statement.{statement}
 use Rattle.cells.proofs.put_four.Tie as tie
 
 returns : tie.Need-returns
-returns c = put-bytes _ 2 2 _ c.before.before.before.before.before.before.«put_two».ensures c.before.before.«put-two2».ensures
+returns c = put-bytes _ 2 2 _ c.put_two.ensures c.put_two-2.ensures
 
 pub put_four_spec : {M : Type 1} → statement M
 put_four_spec =

@@ -9,11 +9,11 @@ use Rattle.cells.proofs.put_last.Tie as tie
 
 returns : tie.Need-returns
 returns c =
-    let a = c.before.before.before.before.before.before.before in
-    let y = c.before.before.before.before.eight.result in
+    let a = c in
+    let y = c.eight-y.result in
     put_last _ _ _ _ _ a.ranges.x.fits a.requires.0.none y _ (omega arith) (omega arith) (omega arith) refl
-    c.before.before.before.before.eight.ensures
-    c.before.before.«put-eight».ensures
+    c.eight-y.ensures
+    c.put_eight.ensures
 
 pub put_last_spec : {M : Type 1} → statement M
 put_last_spec =

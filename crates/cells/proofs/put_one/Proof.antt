@@ -13,4 +13,4 @@ put_one_spec =
     (λ c. search rules)
     (λ c. search rules)
     (λ c. search rules)
-    (λ c. put_byte _ _ _ _ _ c.before.before.requires c.octet.ensures.0))
+    (λ c. put_byte _ _ _ _ _ c.requires c.octet.ensures.0))

@@ -6,7 +6,7 @@ use Rattle.cells.proofs.put_two.Statement.{statement}
 use Rattle.cells.proofs.put_two.Tie as tie
 
 returns : tie.Need-returns
-returns c = put-bytes _ 1 1 _ c.before.before.before.before.before.before.«put_one».ensures c.before.before.«put-one2».ensures
+returns c = put-bytes _ 1 1 _ c.put_one.ensures c.put_one-2.ensures
 
 pub put_two_spec : {M : Type 1} → statement M
 put_two_spec =

@@ -10,7 +10,7 @@ unfolding word_bytes
 span_spec =
     tie.close
     (tie.spec
-    -- returns
-    (λ c. simp (eq-eqb _ _ c.if1.true))
-    -- returns-2
-    (λ c. simp (ne_eqb _ _ c.if1.false)))
+    -- returns-then-m-eq3
+    (λ c. simp (eq-eqb _ _ c.if-m-eq3.true))
+    -- returns-else-m-eq3
+    (λ c. simp (ne_eqb _ _ c.if-m-eq3.false)))

@@ -5,15 +5,15 @@ use Rattle.cells.proofs.Putting.{swap-roomy, swap_is}
 use Rattle.cells.proofs.swap.Statement.{statement}
 use Rattle.cells.proofs.swap.Tie as tie
 
-put-ahead-requires : tie.Need-put-ahead-requires
-put-ahead-requires c κs = rw c.before.blend.ensures (swap-roomy _ _ c.before.before.before.before.before.args.cells.now _ _ _ _ _
-    c.before.before.before.before.before.requires c.before.before.ahead.ensures)
+put-ahead-requires : tie.Need-put_ahead-requires
+put-ahead-requires c κs = rw c.blend-new.ensures (swap-roomy _ _ c.args.cells.now _ _ _ _ _
+    c.requires c.ahead-old.ensures)
 
 returns : tie.Need-returns
 returns c =
-    let a = c.before.before.before.before.before.before.before.before.before in
-    let old = c.before.before.before.before.before.before.ahead.ensures in
-    swap_is _ _ _ _ _ _ _ _ a.requires old _ _ c.before.before.before.before.before.blend.ensures c.before.before.before.«put-ahead».ensures
+    let a = c in
+    let old = c.ahead-old.ensures in
+    swap_is _ _ _ _ _ _ _ _ a.requires old _ _ c.blend-new.ensures c.put_ahead.ensures
     c.turns.ensures
 
 pub swap_spec : {M : Type 1} → statement M

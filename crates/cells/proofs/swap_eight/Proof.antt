@@ -7,8 +7,8 @@ use Rattle.cells.proofs.swap_eight.Tie as tie
 
 returns : tie.Need-returns
 returns c =
-    let a = c.before.before.before.before.before.before.before.before in
-    swap-all _ _ _ _ _ _ a.ranges.w.fits c.before.before.before.before.before.eight.ensures c.before.before.before.«put-eight».ensures
+    let a = c in
+    swap-all _ _ _ _ _ _ a.ranges.w.fits c.eight-old.ensures c.put_eight.ensures
     c.turns.ensures
 
 pub swap_eight_spec : {M : Type 1} → statement M

@@ -7,10 +7,10 @@ use Rattle.cells.proofs.swap_fewer.Tie as tie
 
 returns : tie.Need-returns
 returns c =
-    let a = c.before.before.before.before.before.before.before.before.before in
-    let old = c.before.before.before.before.before.before.eight.ensures in
-    swap_is _ _ _ _ _ _ _ _ a.requires.0 old _ _ c.before.before.before.before.before.blend.ensures
-    c.before.before.before.«put-eight».ensures c.turns.ensures
+    let a = c in
+    let old = c.eight-old.ensures in
+    swap_is _ _ _ _ _ _ _ _ a.requires.0 old _ _ c.blend-new.ensures
+    c.put_eight.ensures c.turns.ensures
 
 pub swap_fewer_spec : {M : Type 1} → statement M
 swap_fewer_spec =

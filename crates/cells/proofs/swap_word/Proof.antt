@@ -4,9 +4,9 @@ use borrow.Author.Rules.{rules}
 use Rattle.cells.proofs.swap_word.Statement.{statement}
 use Rattle.cells.proofs.swap_word.Tie as tie
 
-returns : tie.Need-returns
-returns c = rw c.before.before.before.before.if2.true
-    (rw c.before.before.before.before.before.if1.true c.before.before.«swap_eight».ensures)
+returns : tie.Need-returns-then-size-eq8
+returns c = rw c.if-size-eq8.true
+    (rw c.if-order-eq0.true c.swap_eight.ensures)
 
 pub swap_word_spec : {M : Type 1} → statement M
 swap_word_spec =
@@ -18,7 +18,7 @@ swap_word_spec =
     (λ c. search rules)
     (λ c κs. search rules)
     (λ c. search rules)
-    (λ c. rw c.before.before.before.before.before.before.if1.true c.before.before.«swap-fewer».ensures)
+    (λ c. rw c.if-order-eq0.true c.swap_fewer.ensures)
     (λ c κs. search rules)
     (λ c. search rules)
     (λ c. search rules))

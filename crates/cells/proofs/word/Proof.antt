@@ -6,16 +6,16 @@ use Rattle.cells.proofs.Values.{first-bytes}
 use Rattle.cells.proofs.word.Statement.{statement}
 use Rattle.cells.proofs.word.Tie as tie
 
-returns-2 : tie.Need-returns-2
-returns-2 c = rw c.before.before.before.if1.true (first-bytes _ _ _ c.before.before.before.before.before.args.size (omega arith)
-    c.eight2.ensures)
+returns-2 : tie.Need-returns-then-at-cells
+returns-2 c = rw c.if-order-eq0.true (first-bytes _ _ _ c.args.size (omega arith)
+    c.eight-then-at-cells.ensures)
 
 pub word_spec : {M : Type 1} → statement M
 word_spec =
     tie.close
     (tie.spec
     (λ c κs. search rules)
-    (λ c. rw c.before.if2.true (rw c.before.before.if1.true c.eight.ensures))
+    (λ c. rw c.if-size-eq8.true (rw c.if-order-eq0.true c.eight.ensures))
     (λ c. search rules)
     (λ c κs. search rules)
     (λ c. search rules)

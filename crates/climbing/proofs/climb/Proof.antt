@@ -8,10 +8,10 @@ use Rattle.climbing.proofs.Pascal.{climb-begin, short-begin, may-grow, short-tur
 use Rattle.climbing.proofs.climb.Statement.{statement}
 use Rattle.climbing.proofs.climb.Tie as tie
 
-abbrev invariant-loop : tie.invariant-loop
+abbrev invariant-loop : tie.invariant-loop-d
 invariant-loop b low need cut s₀ d₀ s d = Climbed b low d s.all s.more s.scale × Short b low need d
 
-abbrev decreases-loop : tie.decreases-loop
+abbrev decreases-loop : tie.decreases-loop-d
 decreases-loop b low need cut s₀ d₀ s d = 16 - d
 
 pub climb_spec : {M : Type 1} → statement M
@@ -24,27 +24,27 @@ climb_spec =
     (λ c. search rules)
     -- mul-s
     (λ c. let A = c.requires in omega (arith, mul-le-mul {n₁ = c.args.low + 1} {n₂ = 256} (omega (arith, A.within)) A.few))
-    -- loop-holds
+    -- loop-d-init
     (λ c. let a = c.args in (climb-begin a.b a.low c.requires.within, short-begin a.b a.low a.need (omega (arith, c.requires.some))))
-    -- add-if1
+    -- overflow_add-s-in-loop-d
     (λ c. search rules)
     -- reached-requires
     (λ c κs. search rules)
-    -- returns
+    -- returns-then-cut-s
     (λ c.
-    let s = c.before.before.before.before.loop in
-    climb-end s.invariant.0 c.before.before.before.before.before.requires s.invariant.1 c.before.if1.true c.reached.ensures)
-    -- grow-requires
-    (λ c κs. let C = c.before.before.before.loop.invariant.0 in (may-grow C c.before.before.before.before.requires c.if1.false, C))
-    -- add-d
+    let s = c.loop-d in
+    climb-end s.invariant.0 c.requires s.invariant.1 c.if-cut-s.true c.reached.ensures)
+    -- grow-s-requires
+    (λ c κs. let C = c.loop-d.invariant.0 in (may-grow C c.requires c.if-cut-s.false, C))
+    -- overflow_add-d
     (λ c. search rules)
-    -- loop-less
+    -- loop-d-smaller
     (λ c. search rules)
-    -- loop-again
+    -- loop-d-preserved
     (λ c.
-    let s = c.before.before.before.before.loop in
-    (c.grow.ensures, short-turn s.invariant.0 c.before.before.before.before.before.requires c.before.if1.false))
+    let s = c.loop-d in
+    (c.grow-s.ensures, short-turn s.invariant.0 c.requires c.if-cut-s.false))
     -- climb-on-requires
     (λ c κs. search rules)
-    -- returns-2
+    -- returns
     (λ c. search rules))

@@ -7,10 +7,10 @@ use Rattle.climbing.proofs.Pascal.{may-grow, short-turn, climb-end}
 use Rattle.climbing.proofs.climb_on.Statement.{statement}
 use Rattle.climbing.proofs.climb_on.Tie as tie
 
-abbrev invariant-loop : tie.invariant-loop
+abbrev invariant-loop : tie.invariant-loop-s
 invariant-loop b low need cut from s₀ d₀ s d = Climbed b low d s.all s.more s.scale × Short b low need d
 
-abbrev decreases-loop : tie.decreases-loop
+abbrev decreases-loop : tie.decreases-loop-s
 decreases-loop b low need cut from s₀ d₀ s d = cap - d
 
 pub climb_on_spec : {M : Type 1} → statement M
@@ -19,23 +19,23 @@ climb_on_spec =
     (tie.spec
     invariant-loop
     decreases-loop
-    -- loop-holds
+    -- loop-s-init
     (λ c. search rules)
-    -- add-if1
+    -- overflow_add-s
     (λ c. search rules)
-    -- grow-requires
-    (λ c κs. let C = c.before.before.loop.invariant.0 in (may-grow C c.before.before.before.requires.0 c.if1.true, C))
-    -- add-d
+    -- grow-s-requires
+    (λ c κs. let C = c.loop-s.invariant.0 in (may-grow C c.requires.0 c.loop-s-test.true, C))
+    -- overflow_add-d
     (λ c. search rules)
-    -- loop-less
+    -- loop-s-smaller
     (λ c. search rules)
-    -- loop-again
+    -- loop-s-preserved
     (λ c.
-    let s = c.before.before.before.loop in
-    (c.grow.ensures, short-turn s.invariant.0 c.before.before.before.before.requires.0 c.before.if1.true))
+    let s = c.loop-s in
+    (c.grow-s.ensures, short-turn s.invariant.0 c.requires.0 c.loop-s-test.true))
     -- reached-requires
     (λ c κs. search rules)
     -- returns
     (λ c.
-    let s = c.before.before.before.loop in
-    climb-end s.invariant.0 c.before.before.before.before.requires.0 s.invariant.1 c.before.if1.false c.reached.ensures))
+    let s = c.loop-s in
+    climb-end s.invariant.0 c.requires.0 s.invariant.1 c.loop-s-test.false c.reached.ensures))

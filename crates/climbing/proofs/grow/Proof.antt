@@ -9,19 +9,19 @@ pub grow_spec : {M : Type 1} → statement M
 grow_spec =
     tie.close
     (tie.spec
-    -- add-all
+    -- overflow_add-all
     (λ c. search rules)
-    -- mul-all
+    -- overflow_mul-all
     (λ c. search rules)
-    -- add-all-2
-    (λ c. omega (arith, all_room c.before.before.requires.1 (omega arith) (omega arith)))
-    -- mul-more
-    (λ c. omega (arith, more_room c.before.before.before.requires.1 (omega arith) (omega arith) (omega arith)))
-    -- add-more
+    -- overflow_add-all-2
+    (λ c. omega (arith, all_room c.requires.1 (omega arith) (omega arith)))
+    -- overflow_mul-more
+    (λ c. omega (arith, more_room c.requires.1 (omega arith) (omega arith) (omega arith)))
+    -- overflow_add-more
     (λ c. search rules)
-    -- div-more
+    -- nonzero_div-more
     (λ c. search rules)
-    -- add-scale
-    (λ c. omega (arith, scale-room c.before.before.before.before.requires.1 (omega arith) (omega arith)))
+    -- overflow_add-scale
+    (λ c. omega (arith, scale-room c.requires.1 (omega arith) (omega arith)))
     -- returns
-    (λ c. climb-turn c.before.before.before.before.requires.1 (omega arith) (omega arith) (omega arith)))
+    (λ c. climb-turn c.requires.1 (omega arith) (omega arith) (omega arith)))

@@ -10,11 +10,11 @@ pub least_factor_spec : {M : Type 1} → statement M
 least_factor_spec =
     tie.close
     (tie.spec
-    -- sub-result
+    -- overflow_sub-result
     (λ c. search rules)
-    -- div-result
+    -- nonzero_div-result
     (λ c. search rules)
-    -- add-result
+    -- overflow_add-result
     (λ c. omega (arith, div-le_self (c.args.need - 1) c.args.b))
     -- returns
     (λ c.

@@ -36,7 +36,7 @@ pub +rank_from_spec : {M : Type 1} → statement M
     (rank-from-at t)
     rank-from.Post
     -- returns
-    (λ c. (rw c.if1.true (omega (arith, ranked-none (drop c.before.args.at c.before.args.labels.now))), omega arith))
+    (λ c. (rw c.if-left-eq0.true (omega (arith, ranked-none (drop c.before.args.at c.before.args.labels.now))), omega arith))
     -- element-copy-out-wide
     (λ c. search rules)
     -- wide-requires
@@ -56,4 +56,4 @@ pub +rank_from_spec : {M : Type 1} → statement M
     let a = c.before.before.before.before.before.args in
     rw (ranked-first a.labels.now a.at a.left (omega arith) (omega arith))
     (ranked-more _ _ _ _ a.left (rw c.before.before.wide.ensures.0 at c.before.binomial.ensures)
-    c.rank-from.ensures.0 c.rank-from.ensures.1 (omega arith)))
+    c.rank_from.ensures.0 c.rank_from.ensures.1 (omega arith)))

@@ -6,10 +6,10 @@ use Rattle.dealing.proofs.Drawing.{leaped}
 use Rattle.dealing.proofs.leap.Statement.{statement}
 use Rattle.dealing.proofs.leap.Tie as tie
 
-abbrev invariant-loop : tie.invariant-loop
+abbrev invariant-loop : tie.invariant-loop-label
 invariant-loop label fit left r label₀ fit₀ label' fit' = (label' ≤ label) × Candidate left r label' fit'
 
-abbrev decreases-loop : tie.decreases-loop
+abbrev decreases-loop : tie.decreases-loop-label
 decreases-loop label fit left r label₀ fit₀ label' fit' = label'
 
 pub leap_spec : {M : Type 1} → statement M
@@ -18,17 +18,17 @@ leap_spec =
     (tie.spec
     invariant-loop
     decreases-loop
-    -- loop-holds
+    -- loop-label-init
     (λ c. (omega arith, c.requires.1))
-    -- binomial-requires
+    -- binomial-far-requires
     (λ c κs. omega arith)
-    -- loop-less
+    -- loop-label-smaller
     (λ c. omega arith)
-    -- loop-again
+    -- loop-label-preserved
     (λ c.
-    let s = c.before.before.before.loop in
-    (omega arith, leaped 6 _ _ s.label s.fit _ s.invariant.1 c.before.binomial.ensures (omega arith)))
-    -- returns
-    (λ c. c.before.loop.invariant)
-    -- returns-2
-    (λ c. c.before.before.before.loop.invariant))
+    let s = c.loop-label in
+    (omega arith, leaped 6 _ _ s.label s.fit _ s.invariant.1 c.binomial-far.ensures (omega arith)))
+    -- returns-after-loop-label
+    (λ c. c.loop-label.invariant)
+    -- returns-then-far-r
+    (λ c. c.loop-label.invariant))

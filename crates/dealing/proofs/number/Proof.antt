@@ -10,27 +10,27 @@ pub number_spec : {M : Type 1} → statement M
 number_spec =
     tie.close
     (tie.spec
-    -- fewer-requires
+    -- fewer-below-requires
     (λ c κs. search rules)
-    -- returns
+    -- returns-then-below-ge-CAP
     (λ c. omega arith)
     -- rank-from-requires
     (λ c κs.
-    let a = c.before.before.args in
-    let p = c.before.before.requires.1 in
+    let a = c.args in
+    let p = c.requires.1 in
     (search rules, omega arith, few a.b a.s a.fewest a.k p.3 p.5 p.1 (omega arith)))
-    -- returns-2
+    -- returns-then-rank-ge-CAP
     (λ c.
-    let a = c.before.before.before.before.args in
-    number-over _ _ _ _ c.before.rank-from.result (one-le-pow a.k a.b (omega arith)) c.before.rank-from.ensures.0 (omega arith))
+    let a = c.args in
+    number-over _ _ _ _ c.rank_from-rank.result (one-le-pow a.k a.b (omega arith)) c.rank_from-rank.ensures.0 (omega arith))
     -- read-on-requires
     (λ c κs. search rules)
-    -- add-clip
+    -- overflow_add-below
     (λ c. search rules)
     -- clip-requires
     (λ c κs. search rules)
-    -- returns-3
+    -- returns
     (λ c.
-    let r = c.before.before.before.rank-from in
+    let r = c.rank_from-rank in
     number-sum _ _ _ _ r.result r.ensures.0 (omega arith)
-    c.before.before.before.before.before.fewer.ensures c.before.read-on.ensures c.clip.ensures))
+    c.fewer-below.ensures c.read_on.ensures c.clip.ensures))

@@ -8,10 +8,10 @@ use Rattle.dealing.proofs.Drawing.{split-begin}
 use Rattle.dealing.proofs.pass_fewer.Statement.{statement}
 use Rattle.dealing.proofs.pass_fewer.Tie as tie
 
-abbrev invariant-loop : tie.invariant-loop
+abbrev invariant-loop : tie.invariant-loop-p
 invariant-loop s b fewest n p₀ p = Splitting b fewest s n p.k p.power p.term p.rest
 
-abbrev decreases-loop : tie.decreases-loop
+abbrev decreases-loop : tie.decreases-loop-p
 decreases-loop s b fewest n p₀ p = 16 - p.k
 
 opened : (c : tie.Start invariant-loop decreases-loop) → c.args.s * c.args.b ≤ 3840
@@ -23,23 +23,23 @@ pass_fewer_spec =
     (tie.spec
     invariant-loop
     decreases-loop
-    -- mul-t6
+    -- overflow_mul-p
     (λ c. omega (arith, opened c))
-    -- add-t7
+    -- overflow_add-p
     (λ c. search rules)
-    -- sub-t8
+    -- overflow_sub-p
     (λ c. search rules)
-    -- loop-holds
+    -- loop-p-init
     (λ c. let a = c.args in let d = c.requires.0 in split-begin a.b a.fewest a.s a.n d.lead (opened c) d.within c.requires.1)
-    -- returns
+    -- returns-then-p
     (λ c. search rules)
     -- pass-one-requires
     (λ c κs. search rules)
-    -- loop-less
-    (λ c. omega (arith, c.pass-one.ensures.0))
-    -- loop-again
+    -- loop-p-smaller
+    (λ c. omega (arith, c.pass_one-p.ensures.0))
+    -- loop-p-preserved
     (λ c. search rules)
     -- pass-on-requires
     (λ c κs. search rules)
-    -- returns-2
+    -- returns
     (λ c. search rules))

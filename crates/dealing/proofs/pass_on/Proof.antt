@@ -6,10 +6,10 @@ use Rattle.dealing.specs.Split.{Splitting}
 use Rattle.dealing.proofs.pass_on.Statement.{statement}
 use Rattle.dealing.proofs.pass_on.Tie as tie
 
-abbrev invariant-loop : tie.invariant-loop
+abbrev invariant-loop : tie.invariant-loop-p
 invariant-loop s b fewest n p₀ p = Splitting b fewest s n p.k p.power p.term p.rest
 
-abbrev decreases-loop : tie.decreases-loop
+abbrev decreases-loop : tie.decreases-loop-p
 decreases-loop s b fewest n p₀ p = s - p.k
 
 pub pass_on_spec : {M : Type 1} → statement M
@@ -18,13 +18,13 @@ pass_on_spec =
     (tie.spec
     invariant-loop
     decreases-loop
-    -- loop-holds
+    -- loop-p-init
     (λ c. search rules)
     -- pass-one-requires
     (λ c κs. search rules)
-    -- loop-less
-    (λ c. let r = c.pass-one.ensures in omega (arith, r.0, r.1.to))
-    -- loop-again
+    -- loop-p-smaller
+    (λ c. let r = c.pass_one-p.ensures in omega (arith, r.0, r.1.to))
+    -- loop-p-preserved
     (λ c. search rules)
     -- returns
     (λ c. search rules))

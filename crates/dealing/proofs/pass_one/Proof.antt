@@ -13,15 +13,15 @@ pub pass_one_spec : {M : Type 1} → statement M
 pass_one_spec =
     tie.close
     (tie.spec
-    -- add-t6
+    -- overflow_add-result
     (λ c. search rules)
-    -- mul-t7
+    -- overflow_mul-result
     (λ c. omega (arith, (passed c.before.before).power-fits))
     -- next-term-requires
     (λ c κs. let P = passed c.before.before in search rules)
-    -- sub-t9
+    -- overflow_sub-result
     (λ c. search rules)
     -- returns
     (λ c.
     let s = c.before.before.before.before in
-    (refl, split-turn s.requires.1 _ s.requires.2 (passed s) c.before.next-term.ensures)))
+    (refl, split-turn s.requires.1 _ s.requires.2 (passed s) c.next_term.ensures)))

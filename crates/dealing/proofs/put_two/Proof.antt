@@ -22,24 +22,24 @@ pub put_two_spec : {M : Type 1} → statement M
 put_two_spec =
     tie.close
     (tie.spec
-    -- mul-high
+    -- overflow_mul-high
     (λ c.
     let a = c.args in
     let h = small c in
     omega (arith, mul-le-mul {n₁ = a.z} {m₁ = a.part} {n₂ = 225} {m₂ = 65537} (omega arith) (omega (arith, div-le_self 65536 a.e))))
-    -- mul-values
+    -- overflow_mul-values
     (λ c. rw (quotient c) (omega (arith, small c, div-mul-le_self c.args.z c.args.e)))
-    -- sub-values
+    -- overflow_sub-values
     (λ c. rw (quotient c) (div-mul-le_self c.args.z c.args.e))
-    -- cast-values
+    -- overflow_cast-values
     (λ c. omega (arith, small c))
-    -- add-values
+    -- overflow_add-values
     (λ c. search rules)
     -- element-write-values
     (λ c. search rules)
-    -- cast-values-2
-    (λ c. rw (quotient c) (omega (arith, small c, div-le_self c.args.z c.args.e)))
+    -- overflow_cast-values-2
+    (λ c. rw (quotient c.before) (omega (arith, small c.before, div-le_self c.args.z c.args.e)))
     -- element-write-values-2
     (λ c. search rules)
     -- returns
-    (λ c. rw (quotient c, mod-eq-sub-div-mul c.args.z c.args.e)))
+    (λ c. rw (quotient c.before, mod-eq-sub-div-mul c.args.z c.args.e)))

@@ -9,14 +9,14 @@ use Rattle.dealing.proofs.Drawing.{enough}
 use Rattle.dealing.proofs.settle.Statement.{statement}
 use Rattle.dealing.proofs.settle.Tie as tie
 
-abbrev invariant-loop : tie.invariant-loop
+abbrev invariant-loop : tie.invariant-loop-fit
 invariant-loop s k label₀ fit₀ label fit = (label < s) × (fit ≡ sat (choose label k)) × ((r : ℕ) → r < cap → r < choose s k → r < choose (suc label) k)
 
-abbrev decreases-loop : tie.decreases-loop
+abbrev decreases-loop : tie.decreases-loop-fit
 decreases-loop s k label₀ fit₀ label fit = label
 
-some : (c : tie.In-loop invariant-loop decreases-loop) → 0 < c.before.loop.label
-some c = omega (arith, enough c.before.loop.label c.before.before.before.args.k 0 (omega arith))
+some : (c : tie.In-loop-fit invariant-loop decreases-loop) → 0 < c.loop-fit.label
+some c = omega (arith, enough c.loop-fit.label c.args.k 0 (omega arith))
 
 pub settle_spec : {M : Type 1} → statement M
 settle_spec =
@@ -24,27 +24,27 @@ settle_spec =
     (tie.spec
     invariant-loop
     decreases-loop
-    -- sub-label
+    -- overflow_sub-label
     (λ c. search rules)
-    -- binomial-requires
+    -- binomial-fit-requires
     (λ c κs. search rules)
-    -- loop-holds
+    -- loop-fit-init
     (λ c.
-    let s = c.before.args.s in
+    let s = c.args.s in
     let u : suc (s - 1) ≡ s = omega arith in
-    (omega arith, c.binomial.ensures, λ r small h. rw u h))
-    -- sub-label-2
+    (omega arith, c.binomial-fit.ensures, λ r small h. rw u h))
+    -- overflow_sub-label-in-loop-fit
     (λ c. some c)
-    -- binomial-requires-2
+    -- binomial-fit-requires-in-loop-fit
     (λ c κs. omega arith)
-    -- loop-less
+    -- loop-fit-smaller
     (λ c. omega (arith, some c.before))
-    -- loop-again
+    -- loop-fit-preserved
     (λ c.
-    let s = c.before.before.loop in
+    let s = c.loop-fit in
     let u : suc (s.label - 1) ≡ s.label = omega (arith, some c.before) in
-    (omega arith, c.binomial2.ensures, λ r small h. rw u (omega arith)))
+    (omega arith, c.binomial-fit-in-loop-fit.ensures, λ r small h. rw u (omega arith)))
     -- returns
     (λ c.
-    let s = c.before.loop in
+    let s = c.loop-fit in
     (s.invariant.0, λ r small h. record { is = omega arith; small = omega arith; high = s.invariant.2 r small h })))

@@ -6,7 +6,7 @@ use borrow.Author.Rules.{rules}
 use Rattle.dealing.proofs.two.Statement.{statement}
 use Rattle.dealing.proofs.two.Tie as tie
 
-first : (c : tie.After-wide) → c.wide.result * c.before.before.args.b ≤ 3825
+first : (c : tie.After-wide) → c.wide.result * c.args.b ≤ 3825
 first c = mul-le-mul {n₂ = 255} {m₂ = 15} (omega arith) (omega arith)
 
 pub two_spec : {M : Type 1} → statement M
@@ -17,15 +17,15 @@ two_spec =
     (λ c. search rules)
     -- wide-requires
     (λ c κs. search rules)
-    -- mul-result
+    -- overflow_mul-result
     (λ c. omega (arith, first c))
-    -- add-wide
+    -- overflow_add-i
     (λ c. search rules)
     -- element-copy-out-wide-2
     (λ c. search rules)
     -- wide-requires-2
     (λ c κs. search rules)
-    -- add-result
+    -- overflow_add-result
     (λ c. omega (arith, first c.before.before))
     -- returns
     (λ c. (cc, omega (arith, first c.before.before))))

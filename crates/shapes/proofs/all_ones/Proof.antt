@@ -12,4 +12,4 @@ all_ones_spec =
     -- low-ones-requires
     (λ c κs. omega arith)
     -- returns
-    (λ c. omega (arith, c.low_ones.ensures, pow_mono {i = 2} {j = c.before.args.m} (omega arith), pow_mono {i = c.before.args.m} {j = 4} (omega arith))))
+    (λ c. omega (arith, c.low_ones.ensures, pow_mono {i = 2} {j = c.args.m} (omega arith), pow_mono {i = c.args.m} {j = 4} (omega arith))))

@@ -10,7 +10,7 @@ unfolding first_of
 first_spec =
     tie.close
     (tie.spec
-    -- returns
-    (λ c. (λ v. rw c.if1.true, omega arith))
-    -- returns-2
-    (λ c. (λ v. rw (ne_eqb _ 0 c.if1.false), omega arith)))
+    -- returns-then-f-eq0
+    (λ c. (λ v. rw c.if-f-eq0.true, omega arith))
+    -- returns-else-f-eq0
+    (λ c. (λ v. rw (ne_eqb _ 0 c.if-f-eq0.false), omega arith)))

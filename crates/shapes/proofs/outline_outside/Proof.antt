@@ -12,4 +12,4 @@ outline_outside_spec =
     -- ranges-due-requires
     (λ c κs. search rules)
     -- returns
-    (λ c. rw c.before.ranges-due.ensures))
+    (λ c. rw c.ranges_due.ensures))

@@ -18,13 +18,13 @@ pub range_at_spec : {M : Type 1} → statement M
 range_at_spec =
     tie.close
     (tie.spec
-    -- mul-result
+    -- offset_bounds-v-i
     (λ c. search rules)
     -- element-copy-out-result
     (λ c. search rules)
-    -- returns
-    (λ c. let a = c.before.before.before in found _ a.requires.0 _ a.requires.1 _ (sym (range_listed _ a.requires.0 c.before.if1.true _ a.requires.1)))
+    -- returns-then-f-eq2
+    (λ c. let a = c.before.before.before in found _ a.requires.0 _ a.requires.1 _ (sym (range_listed _ a.requires.0 c.if-f-eq2.true _ a.requires.1)))
     -- element-copy-out-result-2
     (λ c. search rules)
-    -- returns-2
-    (λ c. let a = c.before.before.before in found _ a.requires.0 _ a.requires.1 _ (sym (range-single _ a.requires.0 c.before.if1.false _ a.requires.1))))
+    -- returns
+    (λ c. let a = c.before.before.before in found _ a.requires.0 _ a.requires.1 _ (sym (range-single _ a.requires.0 c.if-f-eq2.false _ a.requires.1))))

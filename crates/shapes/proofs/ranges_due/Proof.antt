@@ -9,7 +9,7 @@ unfolding ranges_due
 ranges_due_spec =
     tie.close
     (tie.spec
-    -- returns
-    (λ c. rw c.if1.true)
-    -- returns-2
-    (λ c. rw (ne_eqb _ 2 c.if1.false)))
+    -- returns-then-f-eq2
+    (λ c. rw c.if-f-eq2.true)
+    -- returns-else-f-eq2
+    (λ c. rw (ne_eqb _ 2 c.if-f-eq2.false)))

@@ -13,6 +13,6 @@ ranges_outside_spec =
     -- is-range-requires
     (λ c κs. search rules)
     -- later-ranges-requires
-    (λ c κs. count-within _ c.before.before.requires)
+    (λ c κs. count-within _ c.requires)
     -- returns
-    (λ c. ranges-tested _ c.before.before.before.requires _ _ _ _ c.before.is-range.ensures c.later-ranges.ensures))
+    (λ c. ranges-tested _ c.requires _ _ _ _ c.is_range.ensures c.later_ranges.ensures))

@@ -9,10 +9,10 @@ use Rattle.code.proofs.Digits.{spelled-last, spelled-longer, spelled-few}
 use Rattle.text.proofs.decimal_length.Statement.{statement}
 use Rattle.text.proofs.decimal_length.Tie as tie
 
-abbrev invariant-loop : tie.invariant-loop
+abbrev invariant-loop : tie.invariant-loop-rest
 invariant-loop x rest₀ count₀ rest count = (rest < 10 ^ 20) × (count + length (decimal rest) ≡ length (decimal x) + 1)
 
-abbrev decreases-loop : tie.decreases-loop
+abbrev decreases-loop : tie.decreases-loop-rest
 decreases-loop x rest₀ count₀ rest count = rest
 
 pub decimal_length_spec : {M : Type 1} → statement M
@@ -20,13 +20,13 @@ decimal_length_spec =
     tie.close (tie.spec
     invariant-loop
     decreases-loop
-    -- loop-holds
+    -- loop-rest-init
     (λ c. search rules)
-    -- add-count
-    (λ c. omega (arith, spelled-few 20 c.before.before.args.x))
-    -- loop-less
+    -- overflow_add-count
+    (λ c. omega (arith, spelled-few 20 c.args.x))
+    -- loop-rest-smaller
     (λ c. search rules)
-    -- loop-again
-    (λ c. let s = c.before.loop in omega (arith, spelled-longer 19 s.rest c.loop-test.true s.invariant.0))
+    -- loop-rest-preserved
+    (λ c. let s = c.loop-rest in omega (arith, spelled-longer 19 s.rest c.loop-rest-test.true s.invariant.0))
     -- returns
-    (λ c. omega (arith, ap length (spelled-last 19 c.before.loop.rest c.loop-test.false))))
+    (λ c. omega (arith, ap length (spelled-last 19 c.loop-rest.rest c.loop-rest-test.false))))

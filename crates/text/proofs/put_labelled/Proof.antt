@@ -15,4 +15,4 @@ put_labelled_spec =
     -- same-length
     (λ c. search rules)
     -- returns
-    (λ c. within-then (exactly c.before.before.before.before.before.before.put-bytes.ensures) c.before.before.put-decimal.ensures))
+    (λ c. within-then (exactly c.put_bytes-behind.ensures) c.put_decimal.ensures))

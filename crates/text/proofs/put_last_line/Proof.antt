@@ -24,4 +24,4 @@ put_last_line_spec =
     (λ c. search rules)
     -- returns
     (λ c. simp append_assoc
-    at (within-then c.before.before.before.before.before.before.put-labelled.ensures (exactly c.before.before.put_byte.ensures))))
+    at (within-then c.put_labelled-first.ensures (exactly c.put_byte.ensures))))

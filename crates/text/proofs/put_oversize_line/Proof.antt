@@ -19,4 +19,4 @@ put_oversize_line_spec =
     -- same-length
     (λ c. search rules)
     -- returns
-    (λ c count. exactly c.before.before.put-bytes.ensures))
+    (λ c count. exactly c.put_bytes.ensures))

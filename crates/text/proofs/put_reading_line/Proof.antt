@@ -34,10 +34,10 @@ put_reading_line_spec =
     (λ c. search rules)
     -- returns
     (λ c.
-    let left = c.before.before.before.before.before.before in
+    let left = c in
     let number = left.before.before.before.before.before in
     let generation = number.before.before.before.before.before in
     let serial = generation.before.before.before.before.before in
-    let two = within-then serial.put-decimal.ensures generation.put-labelled.ensures in
-    let four = within-then (within-then two number.put-labelled2.ensures) left.put-labelled3.ensures in
-    within_same (within-then four (exactly c.before.before.put_byte.ensures)) (simp append_assoc)))
+    let two = within-then serial.put_decimal-first.ensures generation.put_labelled-second.ensures in
+    let four = within-then (within-then two number.put_labelled-third.ensures) left.put_labelled-fourth.ensures in
+    within_same (within-then four (exactly c.put_byte.ensures)) (simp append_assoc)))

@@ -27,8 +27,8 @@ put_refusal_line_spec =
     (λ c. search rules)
     -- returns
     (λ c.
-    let label = c.before.before.before.before.before.before in
+    let label = c in
     let serial = label.before.before.before.before.before in
     let a = serial.before.before.before in
-    let p = within-then (within-then serial.put-decimal.ensures label.put-labelled.ensures) (exactly c.before.before.put_byte.ensures) in
+    let p = within-then (within-then serial.put_decimal-first.ensures label.put_labelled-second.ensures) (exactly c.put_byte.ensures) in
     rw (ne_eqb a.args.refusal 0 (λ e. absurd (omega (arith, a.requires.0)))) (simp append_assoc at p)))

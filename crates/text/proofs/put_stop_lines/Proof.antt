@@ -26,5 +26,5 @@ put_stop_lines_spec =
     (λ c. search rules)
     -- returns
     (λ c. simp append_assoc
-    at (within-then (within-then c.before.before.before.before.before.before.before.before.before.before.put-labelled.ensures
-    (exactly c.before.before.before.before.before.before.put_byte.ensures)) c.before.before.put-last-line.ensures)))
+    at (within-then (within-then c.put_labelled-first.ensures
+    (exactly c.put_byte-second.ensures)) c.put_last_line.ensures)))

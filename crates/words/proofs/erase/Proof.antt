@@ -7,10 +7,10 @@ use borrow.Author.Rules.{rules}
 use Rattle.words.proofs.erase.Statement.{statement}
 use Rattle.words.proofs.erase.Tie as tie
 
-abbrev invariant-loop : tie.invariant-loop
+abbrev invariant-loop : tie.invariant-loop-i
 invariant-loop words₀ n m spare marks₀ low e left₀ i₀ words marks left i = (i ≤ n) × Wiping m spare words₀ i left words marks
 
-abbrev decreases-loop : tie.decreases-loop
+abbrev decreases-loop : tie.decreases-loop-i
 decreases-loop words₀ n m spare marks₀ low e left₀ i₀ words marks left i = n - i
 
 pub erase_spec : {M : Type 1} → statement M
@@ -21,35 +21,35 @@ erase_spec =
     decreases-loop
     (λ c κs. search rules)
     (λ c κs. search rules)
-    -- loop-holds
+    -- loop-i-init
     (λ c. (omega arith, wiping-none _ _ _ _ (omega arith) (omega arith) (omega arith) (omega arith)))
     (λ c. search rules)
     (λ c. search rules)
     (λ c κs. search rules)
     (λ c κs. search rules)
-    -- sub-words
+    -- overflow_sub-words
     (λ c.
-    let pre = c.before.before.before.before.before.before.before.requires in
-    let w = wipes-is _ pre.0 pre.1 _ _ _ _ c.before.«zero-marks».ensures c.«take-spare».ensures.0 in
-    rw c.before.before.before.before.before.before.«low_bits».ensures w.below)
-    -- mul-words
+    let pre = c.requires in
+    let w = wipes-is _ pre.0 pre.1 _ _ _ _ c.zero_marks.ensures c.take_spare-s.ensures.0 in
+    rw c.low_bits-low.ensures w.below)
+    -- overflow_mul-words
     (λ c.
-    let pre = c.before.before.before.before.before.before.before.requires in
-    let w = wipes-is _ pre.0 pre.1 _ _ _ _ c.before.«zero-marks».ensures c.«take-spare».ensures.0 in
+    let pre = c.requires in
+    let w = wipes-is _ pre.0 pre.1 _ _ _ _ c.zero_marks.ensures c.take_spare-s.ensures.0 in
     let l = c.before.before.before.before.before in
-    record { fits = rw (l.before.«low_bits».ensures, l.«low_ones».ensures) w.fits })
+    record { fits = rw (l.low_bits-low.ensures, l.low_ones-e.ensures) w.fits })
     (λ c. search rules)
     (λ c. search rules)
     (λ c. search rules)
     (λ c. search rules)
     (λ c. search rules)
     (λ c. search rules)
-    -- loop-again
+    -- loop-i-preserved
     (λ c.
-    let pre = c.before.before.before.before.before.before.before.requires in
-    let z = c.before.«zero-marks».ensures in
-    let w = wipes-is _ pre.0 pre.1 _ _ _ _ z c.«take-spare».ensures.0 in
-    rw (c.before.before.before.before.before.before.«low_bits».ensures, c.before.before.before.before.before.«low_ones».ensures)
-    (omega arith, wiping-more _ _ _ _ c.before.before.before.before.loop.invariant.1 (omega arith) refl z w c.«take-spare».ensures.1))
+    let pre = c.requires in
+    let z = c.zero_marks.ensures in
+    let w = wipes-is _ pre.0 pre.1 _ _ _ _ z c.take_spare-s.ensures.0 in
+    rw (c.low_bits-low.ensures, c.low_ones-e.ensures)
+    (omega arith, wiping-more _ _ _ _ c.loop-i.invariant.1 (omega arith) refl z w c.take_spare-s.ensures.1))
     -- returns
-    (λ c. let e : c.before.before.before.before.args.n ≡ c.before.loop.i = omega arith in rw e (wiping-all c.before.loop.invariant.1)))
+    (λ c. let e : c.args.n ≡ c.loop-i.i = omega arith in rw e (wiping-all c.loop-i.invariant.1)))

@@ -17,6 +17,6 @@ fresh_marks_spec =
     (λ c κs. search rules)
     -- returns
     (λ c.
-    let a = c.before.before.before.args in
-    fresh-groups a.m a.before a.after c.before.«open-marks».result c.erased.result
-    (omega arith) (omega arith) c.before.«open-marks».ensures c.erased.ensures))
+    let a = c.args in
+    fresh-groups a.m a.before a.after c.open_marks.result c.erased.result
+    (omega arith) (omega arith) c.open_marks.ensures c.erased.ensures))

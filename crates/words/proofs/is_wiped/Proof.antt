@@ -9,10 +9,10 @@ use Rattle.words.proofs.Wiped.{wiped-none, wiped-more}
 use Rattle.words.proofs.is_wiped.Statement.{statement}
 use Rattle.words.proofs.is_wiped.Tie as tie
 
-abbrev invariant-loop : tie.invariant-loop
+abbrev invariant-loop : tie.invariant-loop-i
 invariant-loop before after n m low all₀ i₀ all i = (i ≤ n) × (all ≡ wipes (2 ^ m - 1) (front_groups m i before) (front_groups m i after))
 
-abbrev decreases-loop : tie.decreases-loop
+abbrev decreases-loop : tie.decreases-loop-i
 decreases-loop before after n m low all₀ i₀ all i = n - i
 
 pub is_wiped_spec : {M : Type 1} → statement M
@@ -23,9 +23,9 @@ is_wiped_spec =
     decreases-loop
     -- low-bits-requires
     (λ c κs. search rules)
-    -- loop-holds
-    (λ c. let a = c.before.args in (omega arith, wiped-none a.m a.before.now a.after.now))
-    -- mul-nonzero
+    -- loop-i-init
+    (λ c. let a = c.args in (omega arith, wiped-none a.m a.before.now a.after.now))
+    -- offset_bounds-before-i
     (λ c. search rules)
     -- element-copy-out-nonzero
     (λ c. search rules)
@@ -37,18 +37,18 @@ is_wiped_spec =
     (λ c. search rules)
     -- open-marks-requires
     (λ c κs. search rules)
-    -- add-i
+    -- overflow_add-i
     (λ c. search rules)
-    -- loop-less
+    -- loop-i-smaller
     (λ c. search rules)
-    -- loop-again
+    -- loop-i-preserved
     (λ c.
     let l = c.before.before.before.before.before in
-    let a = l.before.before.args in
-    let marks = c.before.before.nonzero in (
+    let a = l.args in
+    let marks = c.nonzero in (
       omega arith,
-      wiped-more a.m l.loop.i a.before.now a.after.now l.loop.all marks.result c.open-marks.result
-          (omega arith) (omega arith) (omega arith) l.loop.invariant.1 marks.ensures c.open-marks.ensures,
+      wiped-more a.m l.loop-i.i a.before.now a.after.now l.loop-i.all marks.result c.open_marks.result
+          (omega arith) (omega arith) (omega arith) l.loop-i.invariant.1 marks.ensures c.open_marks.ensures,
     ))
     -- returns
-    (λ c. let e : c.before.before.before.args.n ≡ c.before.loop.i = omega arith in rw e c.before.loop.invariant.1))
+    (λ c. let e : c.args.n ≡ c.loop-i.i = omega arith in rw e c.loop-i.invariant.1))

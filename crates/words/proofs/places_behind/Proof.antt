@@ -9,8 +9,8 @@ places_behind_spec =
     tie.close
     (tie.spec
     (λ c. search rules)
-    -- returns
-    (λ c. omega (arith, c.before.requires.3 (omega arith)))
+    -- returns-then-i-n
+    (λ c. omega (arith, c.requires.3 (omega arith)))
     (λ c κs. search rules)
     (λ c. search rules)
     (λ c. search rules))

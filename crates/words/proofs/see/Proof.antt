@@ -8,10 +8,10 @@ use borrow.Author.Rules.{rules}
 use Rattle.words.proofs.see.Statement.{statement}
 use Rattle.words.proofs.see.Tie as tie
 
-abbrev invariant-loop : tie.invariant-loop
+abbrev invariant-loop : tie.invariant-loop-i
 invariant-loop words n m marks₀ low zeros₀ unerased₀ i₀ marks zeros unerased i = (i ≤ n) × Viewing m words i marks zeros unerased
 
-abbrev decreases-loop : tie.decreases-loop
+abbrev decreases-loop : tie.decreases-loop-i
 decreases-loop words n m marks₀ low zeros₀ unerased₀ i₀ marks zeros unerased i = n - i
 
 pub see_spec : {M : Type 1} → statement M
@@ -21,7 +21,7 @@ see_spec =
     invariant-loop
     decreases-loop
     (λ c κs. search rules)
-    -- loop-holds
+    -- loop-i-init
     (λ c. (omega arith, viewing-none _ _ _ (omega arith)))
     (λ c. search rules)
     (λ c. search rules)
@@ -35,11 +35,11 @@ see_spec =
     (λ c. search rules)
     (λ c. search rules)
     (λ c. search rules)
-    -- loop-again
+    -- loop-i-preserved
     (λ c.
     let m = c.before.before.before in
-    let z = c.before.ones.ensures.0 ∙ ap ones c.before.before.«zero-marks».ensures in
-    let view = m.before.before.before.loop.invariant.1 in
-    (omega arith, viewing-more view _ _ _ (omega arith) (omega arith) (omega arith) m.«open-marks».ensures (z, c.before.ones.ensures.1) c.ones2.ensures))
+    let z = c.ones-zeros.ensures.0 ∙ ap ones c.zero_marks.ensures in
+    let view = m.loop-i.invariant.1 in
+    (omega arith, viewing-more view _ _ _ (omega arith) (omega arith) (omega arith) m.open_marks-o.ensures (z, c.ones-zeros.ensures.1) c.ones-unerased.ensures))
     -- returns
-    (λ c. let e : c.before.before.before.args.n ≡ c.before.loop.i = omega arith in rw e (viewing-all c.before.loop.invariant.1)))
+    (λ c. let e : c.args.n ≡ c.loop-i.i = omega arith in rw e (viewing-all c.loop-i.invariant.1)))

@@ -11,13 +11,13 @@ pub take_spare_spec : {M : Type 1} → statement M
 take_spare_spec =
     tie.close
     (tie.spec
-    -- returns
+    -- returns-then-spare-eq0
     (λ c. unfold stripped in search rules)
     (λ c κs. search rules)
-    -- returns-2
+    -- returns-then-k-spare
     (λ c.
-    let o = c.before.ones.ensures.0 in
-    (sym (stripped-none _ _ c.before.before.before.ranges.marks.fits (omega arith)), rw o))
+    let o = c.ones-k.ensures.0 in
+    (sym (stripped-none _ _ c.ranges.marks.fits (omega arith)), rw o))
     (λ c κs. search rules)
-    -- returns-3
+    -- returns
     (λ c. (c.skip.ensures, omega arith)))

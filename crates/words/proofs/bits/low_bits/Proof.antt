@@ -11,9 +11,9 @@ unfolding lows word_groups word_bytes
 low_bits_spec =
     tie.close
     (tie.spec
+    -- returns-then-m-eq2
+    (λ c. rw c.if-m-eq2.true)
+    -- returns-then-m-eq3
+    (λ c. rw c.if-m-eq3.true)
     -- returns
-    (λ c. rw c.if1.true)
-    -- returns-2
-    (λ c. rw c.if2.true)
-    -- returns-3
-    (λ c. let e : c.before.before.args.m ≡ 4 = omega arith in rw e))
+    (λ c. let e : c.args.m ≡ 4 = omega arith in rw e))

@@ -12,7 +12,7 @@ open_marks_spec =
     tie.close
     (tie.spec
     (λ c κs. search rules)
-    -- sub-result
-    (λ c. omega (arith, word-parts c.before.args.m c.before.args.w (erased_group (2 ^ c.before.args.m - 1)), c.erased.ensures))
+    -- overflow_sub-result
+    (λ c. omega (arith, word-parts c.args.m c.args.w (erased_group (2 ^ c.args.m - 1)), c.erased.ensures))
     -- returns
-    (λ c. omega (arith, word-parts c.before.args.m c.before.args.w (erased_group (2 ^ c.before.args.m - 1)), c.erased.ensures)))
+    (λ c. omega (arith, word-parts c.args.m c.args.w (erased_group (2 ^ c.args.m - 1)), c.erased.ensures)))

@@ -8,10 +8,10 @@ use borrow.Author.Rules.{rules}
 use Rattle.words.proofs.bits.skip.Statement.{statement}
 use Rattle.words.proofs.bits.skip.Tie as tie
 
-abbrev invariant-loop : tie.invariant-loop
+abbrev invariant-loop : tie.invariant-loop-i
 invariant-loop x count left₀ i₀ left i = (i ≤ count) × (left ≡ stripped i x)
 
-abbrev decreases-loop : tie.decreases-loop
+abbrev decreases-loop : tie.decreases-loop-i
 decreases-loop x count left₀ i₀ left i = count - i
 
 pub skip_spec : {M : Type 1} → statement M
@@ -20,17 +20,17 @@ skip_spec =
     (tie.spec
     invariant-loop
     decreases-loop
-    -- loop-holds
+    -- loop-i-init
     (λ c. (omega arith, unfold stripped in refl))
     -- top-odd-requires
-    (λ c κs. rw c.before.loop.invariant.1 (stripped-some _ _ c.before.before.ranges.x.fits (omega arith)))
+    (λ c κs. rw c.loop-i.invariant.1 (stripped-some _ _ c.ranges.x.fits (omega arith)))
     (λ c. search rules)
     (λ c. search rules)
     (λ c. search rules)
     (λ c. search rules)
-    -- loop-again
+    -- loop-i-preserved
     (λ c.
-    let s = stripped-xor _ _ c.before.before.before.ranges.x.fits (omega arith) in
-    (omega arith, rw (c.«top-odd».ensures.0, c.before.before.loop.invariant.1) s))
+    let s = stripped-xor _ _ c.ranges.x.fits (omega arith) in
+    (omega arith, rw (c.top_odd.ensures.0, c.loop-i.invariant.1) s))
     -- returns
-    (λ c. let e : c.before.before.args.count ≡ c.before.loop.i = omega arith in rw e c.before.loop.invariant.1))
+    (λ c. let e : c.args.count ≡ c.loop-i.i = omega arith in rw e c.loop-i.invariant.1))

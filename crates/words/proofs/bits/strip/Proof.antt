@@ -14,7 +14,7 @@ strip_spec =
     tie.close
     (tie.spec
     (λ c. search rules)
-    -- sub-result
+    -- overflow_sub-result
     (λ c. let f = top-facts c.args.x c.requires.0 c.ranges.x.fits in rw (c.requires.1, power-shifted (top_of c.args.x) (omega arith)) f.1)
     -- returns
     (λ c.

@@ -8,6 +8,6 @@ pub top_spec : {M : Type 1} → statement M
 top_spec =
     tie.close
     (tie.spec
-    -- sub-result
+    -- overflow_sub-result
     (λ c. (top-facts _ c.requires c.ranges.x.fits).0)
     (λ c. search rules))

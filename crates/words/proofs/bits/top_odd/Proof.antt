@@ -8,7 +8,7 @@ pub top_odd_spec : {M : Type 1} → statement M
 top_odd_spec =
     tie.close
     (tie.spec
-    -- sub-result
+    -- overflow_sub-result
     (λ c. (top-or-one _ c.requires c.ranges.x.fits).0)
     -- returns
     (λ c. ((top-or-one _ c.requires c.ranges.x.fits).1, omega arith)))

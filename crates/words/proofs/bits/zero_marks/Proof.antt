@@ -11,7 +11,7 @@ zero_marks_spec =
     tie.close
     (tie.spec
     (λ c κs. search rules)
-    -- sub-result
-    (λ c. omega (arith, word-parts c.before.args.m c.before.args.w zero_group, c.nonzero.ensures))
+    -- overflow_sub-result
+    (λ c. omega (arith, word-parts c.args.m c.args.w zero_group, c.nonzero.ensures))
     -- returns
-    (λ c. omega (arith, word-parts c.before.args.m c.before.args.w zero_group, c.nonzero.ensures)))
+    (λ c. omega (arith, word-parts c.args.m c.args.w zero_group, c.nonzero.ensures)))
