@@ -5,7 +5,7 @@ pub mod refusals;
 
 // What a caller gives of a field.
 #[repr(C)]
-#[derive(Drop)]
+#[derive(Clone, Copy)]
 pub struct Shape {
     // 0 for drives in service, where blank cells read as the number 0; 1 for new ones, where they have no number; 2 for those with a range for
     // each generation, else as 1.
@@ -22,7 +22,7 @@ pub struct Shape {
 
 // What a caller gives of two fields that are read and written as one: they share the form and m, and may differ in t.
 #[repr(C)]
-#[derive(Drop)]
+#[derive(Clone, Copy)]
 pub struct Pair {
     pub form: u64,
     pub m: u64,
@@ -38,21 +38,21 @@ pub struct Pair {
 pub const PATTERN_MOST: usize = 64;
 
 // The two kinds of dump: the old one has m, t and v in every record, the new one lists its layouts once.
-#[derive(Drop)]
+#[derive(Clone, Copy)]
 pub enum Kind {
     Old,
     New,
 }
 
 // How the places of a generation hold a number: as a pattern whose written places, `fewest` or more, take one of so many values; or as digits.
-#[derive(Drop)]
+#[derive(Clone, Copy)]
 pub enum Dealing {
     Patterns { values: u64, fewest: u64 },
     Digits { base: u64 },
 }
 
 // A generation: the number of its places, that of the next generation or 0, how it deals, and its range.
-#[derive(Drop)]
+#[derive(Clone, Copy)]
 pub struct Generation {
     pub places: u64,
     pub next: u64,

@@ -114,7 +114,7 @@ pub struct Brief {
 }
 
 // A record: its cells are the `count` bytes from `start` on; the layout's number is 0 in an old dump.
-#[derive(Drop)]
+#[derive(Clone, Copy)]
 pub struct Record {
     pub serial: u64,
     pub layout: u64,

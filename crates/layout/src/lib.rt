@@ -22,7 +22,7 @@ pub struct Layout {
 }
 
 // Whose layout with g = 256 is worked out, and its refusal. Its ranges and its counts stand in arrays beside it, which are lent and not copied.
-#[derive(Drop)]
+#[derive(Clone, Copy)]
 pub struct Plan {
     pub outline: Outline,
     pub refusal: u64,

@@ -18,7 +18,7 @@ use code::{Kind, Shape};
 use numerals::Numbers;
 
 // What a record says of its layout: in an old dump m, t and v, in a new one the layout's number. What is not said is 0.
-#[derive(Drop)]
+#[derive(Clone, Copy)]
 pub struct Said {
     pub layout: u64,
     pub m: u64,

@@ -11,7 +11,7 @@ ghost use Rattle.shapes.specs.Outlines.{outlined, outline_outside};
 use code::Shape;
 
 // A shape but for its ranges, which stand in an array beside it, lent and not copied.
-#[derive(Drop)]
+#[derive(Clone, Copy)]
 pub struct Outline {
     pub form: u64,
     pub m: u64,

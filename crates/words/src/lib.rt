@@ -21,7 +21,7 @@ use bits::{
 };
 use code::PATTERN_MOST;
 
-#[derive(Drop)]
+#[derive(Clone, Copy)]
 pub struct Seen {
     pub zeros: u64,
     pub unerased: u64,

@@ -128,7 +128,7 @@ fn lay_number(words: &mut [u64; 16], marks: &[u64; 16], n: usize, m: usize, g: G
 }
 
 // A field whose groups stand in words: what it is like, its groups, the words that these take, and how many of them are zero.
-#[derive(Drop)]
+#[derive(Clone, Copy)]
 pub struct Held {
     pub outline: Outline,
     pub groups: usize,

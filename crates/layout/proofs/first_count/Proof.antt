@@ -16,7 +16,7 @@ first_count_spec =
     (λ c κs. search rules)
     -- first-requires
     (λ c κs. search rules)
-    -- add-opening
+    -- overflow_add-opening
     (λ c. search rules)
     -- least-factor-requires
     (λ c κs. search rules)
@@ -24,8 +24,8 @@ first_count_spec =
     (λ c κs. search rules)
     -- returns
     (λ c.
-    let a = c.before.before.before.before.args in
+    let a = c.args in
     let s = outlined a.f a.v.now in
-    let r = c.before.before.before.range_at.ensures.0 in
-    let one = c.before.before.first.ensures.0 s.v in
+    let r = c.range_at.ensures.0 in
+    let one = c.first.ensures.0 s.v in
     least-from a.e (first_of s) _ (first-form s) c.climb.ensures (omega (arith, r, one))))

@@ -9,15 +9,15 @@ pub first_goal_spec : {M : Type 1} → statement M
 first_goal_spec =
     tie.close
     (tie.spec
-    -- returns
+    -- returns-then-f-eq2
     (λ c. search rules)
     -- element-copy-out-goal-of
     (λ c. search rules)
     -- goal-of-requires
     (λ c κs.
-    let a = c.before.before.before in
+    let a = c in
     let b = a.requires.0 in
-    let one = single-due _ b c.before.if1.false in
+    let one = single-due _ b c.if-f-eq2.false in
     (a.requires.1, omega (arith, b.v_high 0 (omega (arith, one)))))
-    -- returns-2
+    -- returns
     (λ c. search rules))

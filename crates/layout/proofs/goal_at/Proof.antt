@@ -9,18 +9,18 @@ pub goal_at_spec : {M : Type 1} → statement M
 goal_at_spec =
     tie.close
     (tie.spec
-    -- returns
+    -- returns-then-f-ne2
     (λ c.
-    let p = c.before.before.requires in
-    let one = c.if1.true in
+    let p = c.requires in
+    let one = c.if-f-ne2.true in
     (omega (arith, p.1.single one, range-single _ p.0.0 one _ p.0.1), p.1))
     -- range-at-requires
     (λ c κs. search rules)
-    -- add-if2
+    -- overflow_add-range
     (λ c. search rules)
-    -- returns-2
+    -- returns-then-range-behind
     (λ c. search rules)
     -- goal-of-requires
     (λ c κs. search rules)
-    -- returns-3
+    -- returns
     (λ c. search rules))

@@ -17,36 +17,36 @@ grant_spec =
     (λ c κs. search rules)
     -- refuse-requires
     (λ c κs. search rules)
-    -- returns
+    -- returns-then-g-low
     (λ c.
-    let o = c.before.before.before.before.before in
+    let o = c in
     let a = o.before in
     let s = outlined a.args.f a.args.v.now in
-    let crowded = c.before.before.before.later-counts.ensures.crowded c.before.before.if1.true in
-    c.refuse.ensures ∙ refused s a.requires.1.0 o.all_ones.ensures.0 (crowded o.all_ones.result (first_of s)))
+    let crowded = c.later_counts-low.ensures.crowded c.if-g-low.true in
+    c.refuse.ensures ∙ refused s a.requires.1.0 o.all_ones-e.ensures.0 (crowded o.all_ones-e.result (first_of s)))
     -- first-count-requires
     (λ c κs. search rules)
-    -- refuse-requires-2
+    -- refuse-requires-then-g-x
     (λ c κs. search rules)
-    -- returns-2
+    -- returns-then-g-x
     (λ c.
-    let l = c.before.before.before.before.before in
+    let l = c in
     let o = l.before.before in
     let a = o.before in
     let s = outlined a.args.f a.args.v.now in
-    let B = l.later-counts.ensures in
-    let room = c.before.before.before.before.if1.false in
-    let L = c.before.before.before.first_count.ensures in
-    c.refuse2.ensures ∙ first-refused s a.requires.1.0 o.all_ones.ensures.0 (B.stored room) (B.some room) L c.before.before.if2.true)
+    let B = l.later_counts-low.ensures in
+    let room = c.if-g-low.false in
+    let L = c.first_count-x.ensures in
+    c.refuse-then-g-x.ensures ∙ first-refused s a.requires.1.0 o.all_ones-e.ensures.0 (B.stored room) (B.some room) L c.if-g-x.true)
     -- element-write-h
     (λ c. search rules)
-    -- returns-3
+    -- returns
     (λ c.
-    let l = c.before.before.before in
+    let l = c in
     let o = l.before.before in
     let a = o.before in
     let s = outlined a.args.f a.args.v.now in
-    let B = l.later-counts.ensures in
-    let room = c.before.before.if1.false in
-    let L = c.before.first_count.ensures in
-    first-stored s a.requires.1.0 o.all_ones.ensures.0 (B.stored room) (B.some room) L c.if2.false a.requires.0.0.t-high))
+    let B = l.later_counts-low.ensures in
+    let room = c.if-g-low.false in
+    let L = c.first_count-x.ensures in
+    first-stored s a.requires.1.0 o.all_ones-e.ensures.0 (B.stored room) (B.some room) L c.if-g-x.false a.requires.0.0.t-high))

@@ -12,12 +12,12 @@ lay_into_spec =
     (tie.spec
     -- outline-outside-requires
     (λ c κs. search rules)
-    -- returns
+    -- returns-then-outline_outside
     (λ c.
-    let o = c.before in
+    let o = c in
     let a = o.before in
-    rw a.requires (reply-outside _ _ (outside-by-outline _ (sym o.outline-outside.ensures ∙ c.if1.true) a.args.v.now _)))
+    rw a.requires (reply-outside _ _ (outside-by-outline _ (sym o.outline_outside.ensures ∙ c.if-outline_outside.true) a.args.v.now _)))
     -- lay-outlined-requires
-    (λ c κs. let o = c.before.before in (sym o.outline-outside.ensures ∙ c.before.if1.false, o.before.requires))
-    -- returns-2
-    (λ c. c.lay-outlined.ensures))
+    (λ c κs. let o = c in (sym o.outline_outside.ensures ∙ c.if-outline_outside.false, o.requires))
+    -- returns
+    (λ c. c.lay_outlined.ensures))

@@ -12,4 +12,4 @@ lay_out_spec =
     -- lay-into-requires
     (λ c κs. search rules)
     -- returns
-    (λ c. rw c.before.before.outline-of.ensures at c.lay-into.ensures))
+    (λ c. rw c.outline_of.ensures at c.lay_into-refusal.ensures))

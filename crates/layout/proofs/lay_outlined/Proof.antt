@@ -14,17 +14,17 @@ lay_outlined_spec =
     (tie.spec
     -- ranges-outside-requires
     (λ c κs. search rules)
-    -- returns
+    -- returns-then-ranges_outside
     (λ c.
-    let o = c.before in
-    rw o.before.requires.1 (reply-outside _ _ (sym o.ranges-outside.ensures ∙ c.if1.true)))
+    let o = c in
+    rw o.requires.1 (reply-outside _ _ (sym o.ranges_outside.ensures ∙ c.if-ranges_outside.true)))
     -- grant-requires
     (λ c κs.
-    let o = c.before.before in
-    let a = o.before.args in
+    let o = c in
+    let a = o.args in
     let s = outlined a.f a.v.now in
-    let inside : outside s a.g ≡ false = sym o.ranges-outside.ensures ∙ c.before.if1.false in
+    let inside : outside s a.g ≡ false = sym o.ranges_outside.ensures ∙ c.if-ranges_outside.false in
     let w = outside-within s a.g inside in
-    ((w.bounds, w.g-high), (inside, o.before.requires.1)))
-    -- returns-2
+    ((w.bounds, w.g-high), (inside, o.requires.1)))
+    -- returns
     (λ c. c.grant.ensures))

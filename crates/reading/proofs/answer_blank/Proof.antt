@@ -8,7 +8,7 @@ pub answer_blank_spec : {M : Type 1} → statement M
 answer_blank_spec =
     tie.close
     (tie.spec
+    -- returns-then-f-ne0
+    (λ c. rw (ne_eqb c.args.f.form 0 (λ z. omega arith)))
     -- returns
-    (λ c. rw (ne_eqb c.before.before.args.f.form 0 (λ z. omega arith)))
-    -- returns-2
-    (λ c. rw c.if1.false))
+    (λ c. rw c.if-f-ne0.false))

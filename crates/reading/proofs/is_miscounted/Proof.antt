@@ -10,11 +10,11 @@ pub is_miscounted_spec : {M : Type 1} → statement M
 is_miscounted_spec =
     tie.close
     (tie.spec
-    -- returns
-    (λ c. (λ e. absurd (true≢false (sym e)), λ e d. absurd (d c.if1.true)))
-    -- mul-result
+    -- returns-then-i-eq0
+    (λ c. (λ e. absurd (true≢false (sym e)), λ e d. absurd (d c.if-i-eq0.true)))
+    -- offset_bounds-h-i
     (λ c. search rules)
     -- element-copy-out-result
     (λ c. search rules)
-    -- returns-2
-    (λ c. (λ e. (c.before.if1.false, eqb-false _ _ (not-true _ e)), λ e d. eqb-true _ _ (not-false _ e))))
+    -- returns
+    (λ c. (λ e. (c.if-i-eq0.false, eqb-false _ _ (not-true _ e)), λ e d. eqb-true _ _ (not-false _ e))))

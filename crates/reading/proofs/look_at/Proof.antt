@@ -10,22 +10,22 @@ look_at_spec =
     (tie.spec
     (λ c κs. search rules)
     (λ c. search rules)
-    -- load-requires
+    -- load-n-requires
     (λ c κs.
-    let a = c.before.before.before.before in
-    (loadable a.requires.0.0 _ a.requires.0.1 _ (c.before.before.order.ensures a.args.v.now), a.requires.1.0))
+    let a = c in
+    (loadable a.requires.0.0 _ a.requires.0.1 _ (c.order.ensures a.args.v.now), a.requires.1.0))
     (λ c κs. search rules)
     -- read-groups-requires
     (λ c κs.
-    let l = c.before.before.before.before.before in
+    let l = c in
     let a = l.before.before.before.before.before in
-    let H = loaded-holds a.requires.0.0 _ a.requires.0.1 (l.before.before.before.order.ensures a.args.v.now) l.load.ensures in
-    (a.requires.0.0, H, c.before.before.see.ensures))
+    let H = loaded-holds a.requires.0.0 _ a.requires.0.1 (l.order.ensures a.args.v.now) l.load-n.ensures in
+    (a.requires.0.0, H, c.see-seen.ensures))
     -- returns
     (λ c.
-    let v = c.before.before.before in
+    let v = c in
     let l = v.before.before.before in
     let a = l.before.before.before.before.before in
-    let o = l.before.before.before.order.ensures a.args.v.now in
-    let J = c.read-groups.ensures in
-    (looked a.requires.0.0 _ a.requires.0.1 o l.load.ensures _ _ _ v.see.ensures J.0, J.1)))
+    let o = l.order.ensures a.args.v.now in
+    let J = c.read_groups-found.ensures in
+    (looked a.requires.0.0 _ a.requires.0.1 o l.load-n.ensures _ _ _ v.see-seen.ensures J.0, J.1)))

@@ -12,7 +12,7 @@ mark_places_spec =
     (λ c. search rules)
     -- mark-all-requires
     (λ c κs. search rules)
-    -- returns
-    (λ c. ((λ z. c.mark-all.ensures, λ d. absurd (d c.before.before.before.if1.true)), c.mark-all.ensures.long))
-    -- returns-2
-    (λ c. ((λ z. absurd (c.if1.false z), λ d. refl), c.before.requires.1)))
+    -- returns-then-i-eq0
+    (λ c. ((λ z. c.mark_all.ensures, λ d. absurd (d c.if-i-eq0.true)), c.mark_all.ensures.long))
+    -- returns-else-i-eq0
+    (λ c. ((λ z. absurd (c.if-i-eq0.false z), λ d. refl), c.requires.1)))

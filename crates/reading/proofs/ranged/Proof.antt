@@ -11,7 +11,7 @@ ranged_spec =
     tie.close
     (tie.spec
     (λ c. search rules)
-    -- returns
+    -- returns-then-v-x
     (λ c. rw add-one (record { inside = λ h. absurd (omega arith); outside = λ h. refl }))
-    -- returns-2
+    -- returns
     (λ c. rw add-one (record { inside = λ h. refl; outside = λ h. absurd (omega arith) })))

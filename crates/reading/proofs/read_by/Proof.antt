@@ -9,9 +9,9 @@ pub read_by_spec : {M : Type 1} → statement M
 read_by_spec =
     tie.close
     (tie.spec
-    -- returns
-    (λ c. reads-refused _ _ c.before.before.before.requires.right c.if1.true)
+    -- returns-then-plan-ne0
+    (λ c. reads-refused _ _ c.requires.right c.if-plan-ne0.true)
     -- read-granted-requires
-    (λ c κs. plan-granted _ c.before.before.before.requires.right c.if1.false)
-    -- returns-2
+    (λ c κs. plan-granted _ c.requires.right c.if-plan-ne0.false)
+    -- returns
     (λ c. search rules))

@@ -8,52 +8,52 @@ use Rattle.reading.proofs.read_groups.Statement.{statement}
 use Rattle.reading.proofs.read_groups.Tie as tie
 
 -- the places of the generation are marked where its number is told
-marked : (c : tie.After-generation-at) →
-    let p = c.before.before.before.before.before in
-    let a = p.before.before.before.before.args in
-    PlacesMarked (outlined a.f a.v.now) a.n p.past.result a.words.now c.before.mark-places.new.1.1.1.1.0
+marked : (c : tie.After-generation_at-g) →
+    let p = c in
+    let a = p.args in
+    PlacesMarked (outlined a.f a.v.now) a.n p.past-i.result a.words.now c.mark_places.new.marks
 marked c =
-    let e = c.before.before.before in
-    let p = e.before.before in
-    let a = p.before.before.before.before in
-    let right = e.before.is-miscounted.ensures.1 e.if2.false in
-    let M = c.before.mark-places.ensures.0 in
-    placed a.requires.0 a.requires.1 a.requires.2 p.before.if1.false _ p.past.ensures.0 right M.0 M.1
+    let e = c in
+    let p = c in
+    let a = c in
+    let right = e.is_miscounted.ensures.1 e.if-is_miscounted.false in
+    let M = c.mark_places.ensures.0 in
+    placed a.requires.0 a.requires.1 a.requires.2 p.if-seen-h.false _ p.past-i.ensures.0 right M.0 M.1
 
 pub read_groups_spec : {M : Type 1} → statement M
 read_groups_spec =
     tie.close
     (tie.spec
     (λ c. search rules)
-    -- returns
-    (λ c. let a = c.before.before.before in (reads-blank a.requires.0 a.requires.1 a.requires.2 c.if1.true, a.requires.2.long))
-    -- past-requires
-    (λ c κs. past-asks c.before.before.before.requires.0 [])
+    -- returns-then-seen-h
+    (λ c. let a = c in (reads-blank a.requires.0 a.requires.1 a.requires.2 c.if-seen-h.true, a.requires.2.long))
+    -- past-i-requires
+    (λ c κs. past-asks c.requires.0 [])
     -- is-miscounted-requires
-    (λ c κs. omega (arith, c.past.ensures.1, c.before.before.before.before.requires.0.bounds.t-high))
+    (λ c κs. omega (arith, c.past-i.ensures.1, c.requires.0.bounds.t-high))
     (λ c. search rules)
-    -- returns-2
+    -- returns-then-is_miscounted
     (λ c.
-    let p = c.before.before in
-    let a = p.before.before.before.before in
-    let M = c.before.is-miscounted.ensures.0 c.if2.true in
-    (reads-miscounted a.requires.0 a.requires.1 a.requires.2 p.before.if1.false _ p.past.ensures.0 M.0 M.1, a.requires.2.long))
+    let p = c in
+    let a = c in
+    let M = c.is_miscounted.ensures.0 c.if-is_miscounted.true in
+    (reads-miscounted a.requires.0 a.requires.1 a.requires.2 p.if-seen-h.false _ p.past-i.ensures.0 M.0 M.1, a.requires.2.long))
     -- mark-places-requires
-    (λ c κs. let a = c.before.before.before.before.before.before.before in (rw (width a.requires.0 a.requires.1) a.requires.1.ends, a.requires.2.long))
+    (λ c κs. let a = c in (rw (width a.requires.0 a.requires.1) a.requires.1.ends, a.requires.2.long))
     -- generation-at-requires
-    (λ c κs. let p = c.before.before.before.before in (p.before.before.before.before.requires.0, p.past.ensures.1))
-    -- tell-requires
+    (λ c κs. let p = c in (p.requires.0, p.past-i.ensures.1))
+    -- tell-x-requires
     (λ c κs.
-    let p = c.before.before.before.before.before.before in
-    let P = marked c.before in
-    (P.pick, tellable p.before.before.before.before.requires.0 P _ c.before.generation-at.ensures))
+    let p = c in
+    let P = marked c in
+    (P.pick, tellable p.requires.0 P _ c.generation_at-g.ensures))
     -- ranged-requires
-    (λ c κs. let p = c.before.before.before.before.before.before.before in omega (arith, p.past.ensures.1, p.before.before.before.before.requires.0.bounds.t-high))
-    -- returns-3
+    (λ c κs. let p = c in omega (arith, p.past-i.ensures.1, p.requires.0.bounds.t-high))
+    -- returns
     (λ c.
-    let f = c.before.before.before in
-    let p = f.before.before.before.before.before in
-    let a = p.before.before.before.before in
-    let P = marked f in
-    let J = read-at-is a.requires.0 _ p.past.ensures.1 _ P.many _ _ _ f.generation-at.ensures c.before.tell.ensures c.ranged.ensures _ P.held in
-    (reads_at a.requires.0 a.requires.1 a.requires.2 p.before.if1.false _ p.past.ensures.0 _ J, f.before.mark-places.ensures.1)))
+    let f = c.before in
+    let p = c in
+    let a = c in
+    let P = marked f.before in
+    let J = read-at-is a.requires.0 _ p.past-i.ensures.1 _ P.many _ _ _ f.generation_at-g.ensures c.tell-x.ensures c.ranged.ensures _ P.held in
+    (reads_at a.requires.0 a.requires.1 a.requires.2 p.if-seen-h.false _ p.past-i.ensures.0 _ J, f.mark_places.ensures.1)))

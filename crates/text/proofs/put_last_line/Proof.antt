@@ -14,8 +14,6 @@ unfolding ascii last_line
 put_last_line_spec =
     tie.close
     (tie.spec
-    -- slice-aggregate-put-labelled
-    (λ c. refl)
     -- put-labelled-requires
     (λ c κs. omega arith)
     -- put-byte-requires

@@ -12,8 +12,6 @@ pub put_oversize_line_spec : {M : Type 1} → statement M
 unfolding ascii spelled stop_lines
 put_oversize_line_spec =
     tie.close (tie.spec
-    -- slice-aggregate-put-bytes
-    (λ c. refl)
     -- put-bytes-requires
     (λ c κs. omega arith)
     -- same-length

@@ -16,16 +16,10 @@ put_reading_line_spec =
     (tie.spec
     -- put-decimal-requires
     (λ c κs. omega arith)
-    -- slice-aggregate-put-labelled
-    (λ c. refl)
     -- put-labelled-requires
     (λ c κs. omega arith)
-    -- slice-aggregate-put-labelled-2
-    (λ c. refl)
     -- put-labelled-requires-2
     (λ c κs. omega arith)
-    -- slice-aggregate-put-labelled-3
-    (λ c. refl)
     -- put-labelled-requires-3
     (λ c κs. omega arith)
     -- put-byte-requires

@@ -17,8 +17,6 @@ put_refusal_line_spec =
     (tie.spec
     -- put-decimal-requires
     (λ c κs. omega arith)
-    -- slice-aggregate-put-labelled
-    (λ c. refl)
     -- put-labelled-requires
     (λ c κs. omega arith)
     -- put-byte-requires

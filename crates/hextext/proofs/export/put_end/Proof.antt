@@ -12,8 +12,6 @@ unfolding ascii end_record
 put_end_spec =
     tie.close
     (tie.spec
-    -- slice-aggregate-put-bytes
-    (λ c. refl)
     -- put-bytes-requires
     (λ c κs. omega arith)
     -- same-length

@@ -28,8 +28,6 @@ is_end_spec =
     (λ c. (omega arith, λ k h. absurd (omega arith)))
     -- byte-at-requires
     (λ c κs. search rules)
-    -- slice-aggregate-byte-at
-    (λ c. refl)
     -- byte-at-requires-2
     (λ c κs. omega arith)
     -- returns

@@ -9,13 +9,13 @@ pub deal_by_spec : {M : Type 1} → statement M
 deal_by_spec =
     tie.close
     (tie.spec
-    -- returns
-    (λ c. dealt-last _ _ _ _ c.if1.true)
+    -- returns-then-next-eq0
+    (λ c. dealt-last _ _ _ _ c.if-next-eq0.true)
     -- sub-first-or-later
     (λ c. search rules)
     -- first-or-later-requires
     (λ c κs. search rules)
     -- first-or-later-requires-2
     (λ c κs. search rules)
-    -- returns-2
-    (λ c. dealt-before _ _ _ _ _ _ c.before.before.if1.false c.before.first-or-later.ensures c.first-or-later2.ensures))
+    -- returns
+    (λ c. dealt-before _ _ _ _ _ _ c.if-next-eq0.false c.first_or_later.ensures c.first_or_later-2.ensures))

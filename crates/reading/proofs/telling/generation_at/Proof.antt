@@ -6,15 +6,15 @@ use Rattle.reading.proofs.Looking.{generation-made}
 use Rattle.reading.proofs.telling.generation_at.Statement.{statement}
 use Rattle.reading.proofs.telling.generation_at.Tie as tie
 
-next-count-requires : tie.Need-next-count-requires
-next-count-requires c κs = let p = c.before.requires in (none-behind p.0, omega (arith, p.1, p.0.bounds.t-high))
+next-count-requires : tie.Need-next_count-next-requires
+next-count-requires c κs = let p = c.requires in (none-behind p.0, omega (arith, p.1, p.0.bounds.t-high))
 
 returns : tie.Need-returns
 returns c =
-    let n = c.before.before.before.before in
+    let n = c in
     let a = n.before.before in
-    generation-made a.requires.0 _ _ _ _ _ _ c.before.before.before.all_ones.ensures.0 (c.before.before.first.ensures.0 a.args.v.now)
-    n.next-count.ensures c.before.deal-by.ensures c.range_at.ensures.0
+    generation-made a.requires.0 _ _ _ _ _ _ c.all_ones.ensures.0 (c.first.ensures.0 a.args.v.now)
+    n.next_count-next.ensures c.deal_by-dealing.ensures c.range_at-range.ensures.0
 
 pub generation_at_spec : {M : Type 1} → statement M
 generation_at_spec =

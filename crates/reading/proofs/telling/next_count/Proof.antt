@@ -9,10 +9,10 @@ pub next_count_spec : {M : Type 1} → statement M
 next_count_spec =
     tie.close
     (tie.spec
+    -- returns-then-i-eq15
+    (λ c. rw c.if-i-eq15.true (sym c.requires.0))
+    (λ c. search rules)
+    (λ c. search rules)
+    (λ c. search rules)
     -- returns
-    (λ c. rw c.if1.true (sym c.before.requires.0))
-    (λ c. search rules)
-    (λ c. search rules)
-    (λ c. search rules)
-    -- returns-2
     (λ c. rw (add-one _)))

@@ -11,10 +11,10 @@ use Rattle.reading.proofs.Laws.{Passing, passing-none, passing-here, passing-mor
 use Rattle.reading.proofs.telling.past.Statement.{statement}
 use Rattle.reading.proofs.telling.past.Tie as tie
 
-abbrev invariant-loop : tie.invariant-loop
+abbrev invariant-loop : tie.invariant-loop-n
 invariant-loop h t z n₀ n = (0 < n) × Passing (take t h) z (n - 1)
 
-abbrev decreases-loop : tie.decreases-loop
+abbrev decreases-loop : tie.decreases-loop-n
 decreases-loop h t z n₀ n = t - n
 
 -- the count at place n of the list
@@ -27,26 +27,26 @@ past_spec =
     (tie.spec
     invariant-loop
     decreases-loop
-    -- loop-holds
+    -- loop-n-init
     (λ c. (omega arith, passing-none (take c.args.t c.args.h.now) c.args.z (omega arith)))
     (λ c. search rules)
     (λ c. search rules)
     (λ c. search rules)
-    -- returns
+    -- returns-then-h-n
     (λ c.
-    let l = c.before.before.before.loop in
-    let a = c.before.before.before.before.args in
+    let l = c.loop-n in
+    let a = c.args in
     let s = count_at a.t a.h.now l.n l.invariant.0 (omega arith) in
     (sym (passing-here l.invariant.1 (omega (arith, l.invariant.0)) (omega (arith, s))), omega (arith, l.invariant.0)))
     (λ c. search rules)
     (λ c. search rules)
-    -- loop-again
+    -- loop-n-preserved
     (λ c.
-    let l = c.before.before.before.loop in
-    let a = c.before.before.before.before.args in
+    let l = c.loop-n in
+    let a = c.args in
     let s = count_at a.t a.h.now l.n l.invariant.0 (omega arith) in
     let q : l.n + 1 - 1 ≡ l.n - 1 + 1 = omega (arith, l.invariant.0) in
     (omega arith, rw q (passing-more l.invariant.1 (omega (arith, l.invariant.0)) (omega (arith, s)))))
     (λ c. search rules)
-    -- returns-2
-    (λ c. let l = c.before.loop in (sym (passing-last l.invariant.1 (omega (arith, l.invariant.0))), omega (arith, l.invariant.0))))
+    -- returns
+    (λ c. let l = c.loop-n in (sym (passing-last l.invariant.1 (omega (arith, l.invariant.0))), omega (arith, l.invariant.0))))

@@ -11,4 +11,4 @@ tell_digits_spec =
     (λ c κs. search rules)
     (λ c κs. search rules)
     -- returns
-    (λ c. digits-told _ _ _ _ _ c.before.before.pick.ensures c.plain.ensures))
+    (λ c. digits-told _ _ _ _ _ c.pick-k.ensures c.plain.ensures))

@@ -12,10 +12,10 @@ tell_pattern_spec =
     (λ c κs. search rules)
     -- number-requires
     (λ c κs.
-    let g = c.before.before.gather.ensures in
-    let p = c.before.before.before.before.before.requires in
+    let g = c.gather-k.ensures in
+    let p = c.requires in
     ((g.long, g.room), (omega (arith, p.2, g.chosen.count), gathered-few g p.1, omega (arith, p.1, p.0.most), p.3, p.4, p.5)))
     -- returns
     (λ c.
-    pattern-told _ _ _ _ _ _ _ _ c.before.before.before.gather.ensures c.before.before.before.before.before.before.requires.1
+    pattern-told _ _ _ _ _ _ _ _ c.gather-k.ensures c.requires.1
     c.number.ensures))
