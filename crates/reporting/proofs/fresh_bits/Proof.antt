@@ -14,11 +14,11 @@ fresh_bits_spec =
     (tie.spec
     -- fresh-marks-requires
     (λ c κs. search rules)
-    -- returns
+    -- returns-then-flags-eq0
     (λ c.
-    let m = c.before.before.args.m in
-    rw (← c.before.«fresh-marks».ensures, c.if1.true) (sym (gathered-zero m (word_groups m))))
+    let m = c.args.m in
+    rw (← c.fresh_marks-flags.ensures, c.if-flags-eq0.true) (sym (gathered-zero m (word_groups m))))
     -- gather-bits-requires
-    (λ c κs. (omega arith, omega arith, rw c.before.«fresh-marks».ensures (freshly-flags _ _ _)))
-    -- returns-2
-    (λ c. c.«gather-bits».ensures ∙ ap flag_word c.before.before.«fresh-marks».ensures))
+    (λ c κs. (omega arith, omega arith, rw c.fresh_marks-flags.ensures (freshly-flags _ _ _)))
+    -- returns
+    (λ c. c.gather_bits.ensures ∙ ap flag_word c.fresh_marks-flags.ensures))

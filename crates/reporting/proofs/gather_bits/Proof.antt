@@ -8,10 +8,10 @@ use Rattle.reporting.proofs.Gathering.{Gathering, gathering-none, gathering-smal
 use Rattle.reporting.proofs.gather_bits.Statement.{statement}
 use Rattle.reporting.proofs.gather_bits.Tie as tie
 
-abbrev invariant-loop : tie.invariant-loop
+abbrev invariant-loop : tie.invariant-loop-k
 invariant-loop flags m groups left₀ bits₀ k₀ left bits k = (k ≤ word_groups m) × Gathering m flags left bits k
 
-abbrev decreases-loop : tie.decreases-loop
+abbrev decreases-loop : tie.decreases-loop-k
 decreases-loop flags m groups left₀ bits₀ k₀ left bits k = groups - k
 
 pub gather_bits_spec : {M : Type 1} → statement M
@@ -22,19 +22,19 @@ gather_bits_spec =
     decreases-loop
     -- groups-of-requires
     (λ c κs. search rules)
-    -- loop-holds
+    -- loop-k-init
     (λ c. (omega arith, gathering-none _ _))
-    -- mul-bits
-    (λ c. omega (arith, gathering-small c.before.loop.invariant.1 (omega arith) (omega arith) c.before.before.before.requires.2 (omega arith)))
-    -- add-bits
-    (λ c. omega (arith, gathering-small c.before.loop.invariant.1 (omega arith) (omega arith) c.before.before.before.requires.2 (omega arith)))
-    -- shr-left
+    -- overflow_mul-bits
+    (λ c. omega (arith, gathering-small c.loop-k.invariant.1 (omega arith) (omega arith) c.requires.2 (omega arith)))
+    -- overflow_add-bits
+    (λ c. omega (arith, gathering-small c.loop-k.invariant.1 (omega arith) (omega arith) c.requires.2 (omega arith)))
+    -- overflow_shr-left
     (λ c. search rules)
-    -- add-k
+    -- overflow_add-k
     (λ c. search rules)
-    -- loop-less
+    -- loop-k-smaller
     (λ c. search rules)
-    -- loop-again
-    (λ c. (omega arith, gathering-more c.before.loop.invariant.1 (omega arith) (omega arith) c.before.before.before.requires.2 (omega arith)))
+    -- loop-k-preserved
+    (λ c. (omega arith, gathering-more c.loop-k.invariant.1 (omega arith) (omega arith) c.requires.2 (omega arith)))
     -- returns
-    (λ c. let e : word_groups c.before.before.before.args.m ≡ c.before.loop.k = omega arith in rw e c.before.loop.invariant.1.done))
+    (λ c. let e : word_groups c.args.m ≡ c.loop-k.k = omega arith in rw e c.loop-k.invariant.1.done))

@@ -8,7 +8,7 @@ pub groups_of_spec : {M : Type 1} → statement M
 groups_of_spec =
     tie.close
     (tie.spec
-    -- returns
-    (λ c. groups-two c.before.args.m c.if1.true)
-    -- returns-2
-    (λ c. groups-more c.before.args.m (omega arith) (omega arith)))
+    -- returns-then-m-eq2
+    (λ c. groups-two c.args.m c.if-m-eq2.true)
+    -- returns-else-m-eq2
+    (λ c. groups-more c.args.m (omega arith) (omega arith)))

@@ -7,22 +7,22 @@ use Rattle.reporting.proofs.Reporting.{Reporting, Reportable, reporting-none, re
 use Rattle.reporting.proofs.report.Statement.{statement}
 use Rattle.reporting.proofs.report.Tie as tie
 
-abbrev invariant-loop : tie.invariant-loop
+abbrev invariant-loop : tie.invariant-loop-i
 invariant-loop before after n m bits₀ groups count₀ i₀ bits count i = (i ≤ n) × Reporting m before after i bits count
 
-abbrev decreases-loop : tie.decreases-loop
+abbrev decreases-loop : tie.decreases-loop-i
 decreases-loop before after n m bits₀ groups count₀ i₀ bits count i = n - i
 
-reportable : (c : tie.After-fresh-bits invariant-loop decreases-loop) →
-    let l = c.before.before.before.before in
-    let a = l.before.before.before.args in
-    Reportable a.m a.before.now a.after.now l.loop.i l.loop.bits l.loop.count (l.before.«groups_of».result * l.loop.i)
-    c.«fresh-bits».result
+reportable : (c : tie.After-fresh_bits-fresh invariant-loop decreases-loop) →
+    let l = c in
+    let a = l.args in
+    Reportable a.m a.before.now a.after.now l.loop-i.i l.loop-i.bits l.loop-i.count (l.groups_of-groups.result * l.loop-i.i)
+    c.fresh_bits-fresh.result
 reportable c =
-    let l = c.before.before.before.before in
-    let at = ap (λ g. g * l.loop.i) l.before.«groups_of».ensures in
-    reporting-more l.loop.invariant.1 l.before.before.before.args.n _ _
-    (omega arith) (omega arith) (omega arith) (omega arith) (omega arith) (omega arith) at c.«fresh-bits».ensures
+    let l = c in
+    let at = ap (λ g. g * l.loop-i.i) l.groups_of-groups.ensures in
+    reporting-more l.loop-i.invariant.1 l.args.n _ _
+    (omega arith) (omega arith) (omega arith) (omega arith) (omega arith) (omega arith) at c.fresh_bits-fresh.ensures
 
 pub report_spec : {M : Type 1} → statement M
 report_spec =
@@ -32,7 +32,7 @@ report_spec =
     decreases-loop
     -- groups-of-requires
     (λ c κs. search rules)
-    -- loop-holds
+    -- loop-i-init
     (λ c. (omega arith, reporting-none _ _ _))
     -- mul-fresh-bits
     (λ c. search rules)
@@ -44,29 +44,29 @@ report_spec =
     (λ c. search rules)
     -- fresh-bits-requires
     (λ c κs. search rules)
-    -- mul-at
+    -- overflow_mul-at
     (λ c. omega (arith, (reportable c).within))
-    -- shl-bits
+    -- overflow_shl-bits
     (λ c. search rules)
-    -- mul-bits
+    -- offset_bounds-bits-at
     (λ c. omega (arith, (reportable c).within))
     -- element-copy-out-bits
-    (λ c. (reportable c).within)
-    -- add-bits
-    (λ c. omega (arith, (reportable c.before).fits))
-    -- element-write-bits
     (λ c. (reportable c.before).within)
-    -- ones-requires
+    -- overflow_add-bits
+    (λ c. omega (arith, (reportable c.before.before).fits))
+    -- element-write-bits
+    (λ c. (reportable c.before.before).within)
+    -- ones-count-requires
     (λ c κs. search rules)
-    -- add-count
-    (λ c. omega (arith, c.before.before.before.before.before.before.loop.invariant.1.few))
-    -- add-i
+    -- overflow_add-count
+    (λ c. omega (arith, c.loop-i.invariant.1.few))
+    -- overflow_add-i
     (λ c. search rules)
-    -- loop-less
+    -- loop-i-smaller
     (λ c. search rules)
-    -- loop-again
-    (λ c. (omega arith, (reportable c.before.before).more _ c.ones.ensures))
+    -- loop-i-preserved
+    (λ c. (omega arith, (reportable c.before.before.before).more _ c.ones-count.ensures))
     -- returns
     (λ c.
-    let e : c.before.before.before.before.args.n ≡ c.before.loop.i = omega arith in
-    rw e (c.before.loop.invariant.1.made, c.before.loop.invariant.1.told)))
+    let e : c.args.n ≡ c.loop-i.i = omega arith in
+    rw e (c.loop-i.invariant.1.made, c.loop-i.invariant.1.told)))

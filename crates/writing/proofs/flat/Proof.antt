@@ -13,7 +13,7 @@ flat_spec =
     (λ c. search rules)
     (λ c. search rules)
     (λ c κs. search rules)
-    (λ c. rw c.before.writing.given.1)
+    (λ c. rw c.in-Written.is)
     (λ c.
-    let k = c.before.before.writing2.given.0.0 in
-    rw c.before.before.writing2.given.1 (write-refused k _ (refusal-told k _ c.flat-refusal.ensures))))
+    let k = c.in-Refused.refusal in
+    rw c.in-Refused.is (write-refused k _ (refusal-told k _ c.flat_refusal-c.ensures))))

@@ -12,9 +12,9 @@ lay_plain_spec =
     (λ c κs. search rules)
     -- lay-digits-requires
     (λ c κs.
-    let a = c.before.before.before.before in
-    let q = c.before.before.plainly.ensures in
+    let a = c in
+    let q = c.plainly.ensures in
     let d = digits_are a.args.e a.args.places a.args.x a.requires.1.0 a.requires.1.3 in
     ((a.requires.0.0, q.1, omega (arith, a.requires.0.1, a.requires.0.2)), rw (← a.requires.0.1, q.0, ← a.requires.1.2) d.1))
     -- returns
-    (λ c. let a = c.before.before.before.before.before in rw (← a.requires.0.1, c.before.before.before.plainly.ensures.0) at c.lay-digits.ensures))
+    (λ c. let a = c in rw (← a.requires.0.1, c.plainly.ensures.0) at c.lay_digits.ensures))

@@ -10,14 +10,14 @@ take_aim_spec =
     (tie.spec
     (λ c. search rules)
     (λ c. search rules)
-    -- returns
-    (λ c. rw (c.before.before.found.given.1, eq-eqb _ _ c.if1.true))
+    -- returns-then-generation-t
+    (λ c. rw (c.in-Number.is, eq-eqb _ _ c.if-generation-t.true))
     (λ c. search rules)
     (λ c. search rules)
     (λ c. search rules)
-    -- returns-3
-    (λ c. rw (c.before.before.found.given.1, ne_eqb _ _ c.if1.false))
-    -- returns-4
-    (λ c. rw c.before.found2.given.1)
-    -- returns-5
-    (λ c. rw c.before.found3.given.1))
+    -- returns-else-generation-t
+    (λ c. rw (c.in-Number.is, ne_eqb _ _ c.if-generation-t.false))
+    -- returns-in-Miscounted
+    (λ c. rw c.in-Miscounted.is)
+    -- returns-in-Beyond
+    (λ c. rw c.in-Beyond.is))

@@ -15,22 +15,22 @@ write_spec =
     (λ c κs. search rules)
     -- outline-outside-requires
     (λ c κs. search rules)
-    -- returns
+    -- returns-then-outline_outside
     (λ c.
-    let F = c.before in
-    let a = F.before.before.before.args in
-    let wrong = outline-refused F.before.outline-of.result a.s.v (sym F.outline-outside.ensures ∙ c.if1.true) in
-    writes-refused _ _ _ (rw F.before.outline-of.ensures at wrong) (λ z. omega arith))
+    let F = c in
+    let a = F.args in
+    let wrong = outline-refused F.outline_of-f.result a.s.v (sym F.outline_outside.ensures ∙ c.if-outline_outside.true) in
+    writes-refused _ _ _ (rw F.outline_of-f.ensures at wrong) (λ z. omega arith))
     -- lay-outlined-requires
-    (λ c κs. (sym c.before.before.before.before.outline-outside.ensures ∙ c.before.before.before.if1.false, search rules))
-    -- returns-2
-    (λ c. writes-refused _ _ _ (rw c.before.before.before.before.before.before.before.outline-of.ensures at c.before.lay-outlined.ensures) c.if2.true)
+    (λ c κs. (sym c.outline_outside.ensures ∙ c.if-outline_outside.false, search rules))
+    -- returns-then-refusal-ne0
+    (λ c. writes-refused _ _ _ (rw c.outline_of-f.ensures at c.lay_outlined-refusal.ensures) c.if-refusal-ne0.true)
     -- write-granted-requires
-    (λ c κs. plan-granted _ c.before.before.before.before.lay-outlined.ensures c.before.before.before.if2.false)
+    (λ c κs. plan-granted _ c.lay_outlined-refusal.ensures c.if-refusal-ne0.false)
     -- same-length
     (λ c. search rules)
-    -- returns-3
+    -- returns
     (λ c.
-    let w = c.before.before in
+    let w = c in
     let l = w.before.before.before.before in
-    rw l.before.before.before.before.before.before.before.outline-of.ensures at w.write_granted.ensures))
+    rw l.outline_of-f.ensures at w.write_granted.ensures))

@@ -18,6 +18,6 @@ write_at_spec =
     (λ c. search rules)
     -- returns
     (λ c.
-    let stores = c.before.before in
-    let laid = stores.before.before.before.before.before.«erase-and-lay».ensures in
-    (λ v. rw (stores.before.before.order.ensures v, stored-groups laid) at stores.store.ensures, laid)))
+    let stores = c in
+    let laid = stores.erase_and_lay.ensures in
+    (λ v. rw (stores.order.ensures v, stored-groups laid) at stores.store.ensures, laid)))

@@ -1,7 +1,7 @@
 -- `writing::write_granted` meets its contract. Assumes nothing.
 use borrow.Author.Rules.{rules}
-use mathlib.Core.Path.{sym, ◌∙◌}
-use borrow.Author.Tests.{not-false}
+use mathlib.Core.Path.{sym, ap, ◌∙◌}
+use mathlib.Core.Bool.{not}
 use Rattle.shapes.specs.Outlines.{outlined}
 use Rattle.code.specs.Calls.{over_range}
 use Rattle.reading.specs.Answers.{SoundCells}
@@ -11,11 +11,11 @@ use Rattle.writing.proofs.write_granted.Statement.{statement}
 use Rattle.writing.proofs.write_granted.Tie as tie
 
 -- the cells are sound where no refusal returned
-right : (c : tie.Else1) → let a = c.before.before.before.before.before.before.args in SoundCells (outlined a.f a.v.now) a.cells.now
+right : (c : tie.Else-not-is_sound) → let a = c.args in SoundCells (outlined a.f a.v.now) a.cells.now
 right c =
-    let a = c.before.before.before.before.before.before in
-    sym (sound-width a.requires _ _ (c.before.before.before.order.ensures a.args.v.now)) ∙ sym c.before.is-sound.ensures
-    ∙ not-false _ c.if1.false
+    let a = c in
+    sym (sound-width a.requires _ _ (c.order.ensures a.args.v.now)) ∙ sym c.is_sound.ensures
+    ∙ c.if-not-is_sound.false
 
 pub write_granted_spec : {M : Type 1} → statement M
 unfolding over_range
@@ -25,23 +25,23 @@ write_granted_spec =
     (λ c κs. search rules)
     (λ c. search rules)
     -- is-sound-requires
-    (λ c κs. let G = c.before.before.before.before.requires in (G.bounds.m-high, G.small 0))
+    (λ c κs. let G = c.requires in (G.bounds.m-high, G.small 0))
     (λ c. search rules)
-    -- returns
+    -- returns-then-not-is_sound
     (λ c.
-    let a = c.before.before.before.before.before.before in
-    writes-3 a.requires _ _ _ _ (c.before.before.before.order.ensures a.args.v.now) c.before.is-sound.ensures c.if1.true)
+    let a = c in
+    writes-3 a.requires _ _ _ _ (c.order.ensures a.args.v.now) c.is_sound.ensures (ap not c.if-not-is_sound.true))
     (λ c. search rules)
     (λ c. search rules)
-    -- returns-2
+    -- returns-then-f-v
     (λ c.
     let e = c.before.before.before in
     let a = e.before.before.before.before.before.before in
-    writes-6 a.requires _ _ (right e) c.if2.true)
+    writes-6 a.requires _ _ (right e.before) c.if-f-v.true)
     -- write-sound-requires
     (λ c κs.
     let e = c.before.before.before.before in
     let a = e.before.before.before.before.before.before in
-    (a.requires, c.before.if2.false, right e))
+    (a.requires, c.if-f-v.false, right e.before))
     (λ c. search rules)
     (λ c. search rules))
