@@ -16,11 +16,11 @@ flat_spec =
     (λ c. search rules)
     (λ c. search rules)
     (λ c κs. search rules)
-    -- returns
-    (λ c. rw c.before.judged.given.1)
-    -- returns-2
-    (λ c. rw c.enum_told.given.1)
-    -- returns-3
+    -- returns-in-Right
+    (λ c. rw c.in-Right.is)
+    -- returns-in-Wrong
+    (λ c. rw c.in-Wrong.is)
+    -- returns-in-Refused
     (λ c.
-    let k = c.before.before.judged2.given.0.0 in
-    rw c.before.before.judged2.given.1 (judge-fields-refused k _ (refusal-told k _ c.flat-refusal.ensures))))
+    let k = c.in-Refused.refusal in
+    rw c.in-Refused.is (judge-fields-refused k _ (refusal-told k _ c.flat_refusal-told.ensures))))

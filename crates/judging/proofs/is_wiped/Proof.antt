@@ -11,9 +11,9 @@ unfolding wiped
 is_wiped_spec =
     tie.close
     (tie.spec
-    -- returns
-    (λ c. rw c.if1.true)
+    -- returns-then-place-eq0
+    (λ c. rw c.if-place-eq0.true)
     -- is-wiped-requires
     (λ c κs. search rules)
-    -- returns-2
-    (λ c. c.is-wiped.ensures ∙ wiped-later _ _ _ _ c.before.if1.false))
+    -- returns
+    (λ c. c.is_wiped.ensures ∙ wiped-later _ _ _ _ c.if-place-eq0.false))

@@ -15,24 +15,24 @@ judge_spec =
     (λ c κs. search rules)
     -- outline-outside-requires
     (λ c κs. search rules)
+    -- returns-then-outline_outside
+    (λ c.
+    let F = c in
+    let a = F.args in
+    let wrong = outline-refused F.outline_of-f.result a.s.v (sym F.outline_outside.ensures ∙ c.if-outline_outside.true) in
+    (judges-no-layout _ _ _ (rw F.outline_of-f.ensures at wrong) (λ z. omega arith), tt))
+    -- lay-outlined-requires
+    (λ c κs. (sym c.outline_outside.ensures ∙ c.if-outline_outside.false, search rules))
+    -- returns-then-refusal-ne0
+    (λ c.
+    let laid = c in
+    let outlined = laid in
+    (judges-no-layout _ _ _ (rw outlined.outline_of-f.ensures at laid.lay_outlined-refusal.ensures) c.if-refusal-ne0.true, tt))
+    -- judge-granted-requires
+    (λ c κs. plan-granted _ c.lay_outlined-refusal.ensures c.if-refusal-ne0.false)
     -- returns
     (λ c.
-    let F = c.before in
-    let a = F.before.before.before.before.args in
-    let wrong = outline-refused F.before.outline-of.result a.s.v (sym F.outline-outside.ensures ∙ c.if1.true) in
-    (judges-no-layout _ _ _ (rw F.before.outline-of.ensures at wrong) (λ z. omega arith), tt))
-    -- lay-outlined-requires
-    (λ c κs. (sym c.before.before.before.before.outline-outside.ensures ∙ c.before.before.before.if1.false, search rules))
-    -- returns-2
-    (λ c.
-    let laid = c.before in
-    let outlined = laid.before.before.before.before.before.before in
-    (judges-no-layout _ _ _ (rw outlined.outline-of.ensures at laid.lay-outlined.ensures) c.if2.true, tt))
-    -- judge-granted-requires
-    (λ c κs. plan-granted _ c.before.before.before.lay-outlined.ensures c.before.before.if2.false)
-    -- returns-3
-    (λ c.
-    let laid = c.before.before.before.before in
-    let outlined = laid.before.before.before.before.before.before in
-    let told = rw outlined.outline-of.ensures at c.judge-granted.ensures in
-    (told, says _ _ _ c.judge-granted.result told)))
+    let laid = c in
+    let outlined = laid in
+    let told = rw outlined.outline_of-f.ensures at c.judge_granted.ensures in
+    (told, says _ _ _ c.judge_granted.result told)))

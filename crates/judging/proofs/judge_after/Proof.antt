@@ -1,7 +1,6 @@
 -- `judging::judge_after` meets its contract. Assumes nothing.
 use borrow.Author.Rules.{rules}
 use mathlib.Core.Path.{refl, sym, ◌∙◌}
-use borrow.Author.Tests.{not-true, not-false}
 use Rattle.shapes.specs.Outlines.{outlined}
 use Rattle.reading.specs.Answers.{SoundCells}
 use Rattle.reading.proofs.Looking.{sound-width}
@@ -10,11 +9,11 @@ use Rattle.judging.proofs.judge_after.Statement.{statement}
 use Rattle.judging.proofs.judge_after.Tie as tie
 
 -- the cells are sound where no refusal returned
-right : (c : tie.Else1) → let a = c.before.before.before.before.before.args in SoundCells (outlined a.f a.v.now) a.after.now
+right : (c : tie.Else-not-is_sound) → let a = c.args in SoundCells (outlined a.f a.v.now) a.after.now
 right c =
-    let a = c.before.before.before.before.before in
-    sym (sound-width a.requires.0 a.args.after.now _ (c.before.before.before.order.ensures a.args.v.now)) ∙ sym c.before.is-sound.ensures
-    ∙ not-false _ c.if1.false
+    let a = c in
+    sym (sound-width a.requires.0 a.args.after.now _ (c.order.ensures a.args.v.now)) ∙ sym c.is_sound.ensures
+    ∙ c.if-not-is_sound.false
 
 pub judge_after_spec : {M : Type 1} → statement M
 judge_after_spec =
@@ -25,22 +24,22 @@ judge_after_spec =
     -- element-copy-out-is-sound
     (λ c. search rules)
     -- is-sound-requires
-    (λ c κs. let G = c.before.before.before.requires.0 in (G.bounds.m-high, G.small 0))
-    -- returns
+    (λ c κs. let G = c.requires.0 in (G.bounds.m-high, G.small 0))
+    -- returns-then-not-is_sound
     (λ c.
-    let a = c.before.before.before.before.before in
-    let width = sound-width a.requires.0 a.args.after.now _ (c.before.before.before.order.ensures a.args.v.now) in
-    after-3 a.requires.0 a.requires.1 _ _ (sym width ∙ sym c.before.is-sound.ensures ∙ not-true _ c.if1.true))
+    let a = c in
+    let width = sound-width a.requires.0 a.args.after.now _ (c.order.ensures a.args.v.now) in
+    after-3 a.requires.0 a.requires.1 _ _ (sym width ∙ sym c.is_sound.ensures ∙ c.if-not-is_sound.true))
     -- look-at-requires
-    (λ c κs. let e = c.before.before in ((e.before.before.before.before.before.requires.0, right e), (refl, refl)))
+    (λ c κs. let e = c.before.before in ((e.requires.0, right e), (refl, refl)))
     -- is-wiped-requires
     (λ c κs. search rules)
     -- tell-verdict-requires
     (λ c κs. search rules)
-    -- returns-2
+    -- returns
     (λ c.
-    let w = c.before in
-    let l = w.before.before in
+    let w = c in
+    let l = w in
     let e = l.before.before.before in
-    let a = e.before.before.before.before.before in
-    c.tell-verdict.ensures ∙ after-as a.requires.0 a.requires.1 _ _ (right e) l.look_at.ensures.0 _ w.is-wiped.ensures))
+    let a = e in
+    c.tell_verdict.ensures ∙ after-as a.requires.0 a.requires.1 _ _ (right e.before.before.before) l.look_at-look.ensures.0 _ w.is_wiped-wiped.ensures))

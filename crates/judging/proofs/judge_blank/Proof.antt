@@ -8,9 +8,9 @@ pub judge_blank_spec : {M : Type 1} → statement M
 judge_blank_spec =
     tie.close
     (tie.spec
+    -- returns-then-form-ne0
+    (λ c. rw (ne_eqb c.args.form 0 (λ z. omega arith)))
+    -- returns-then-place-eq0
+    (λ c. let a = c.args in rw (eq-eqb a.form 0 (omega arith), eq-eqb a.place 0 (omega arith)))
     -- returns
-    (λ c. rw (ne_eqb c.before.args.form 0 (λ z. omega arith)))
-    -- returns-2
-    (λ c. let a = c.before.before.args in rw (eq-eqb a.form 0 (omega arith), eq-eqb a.place 0 (omega arith)))
-    -- returns-3
-    (λ c. let a = c.before.before.args in rw (eq-eqb a.form 0 (omega arith), ne_eqb a.place 0 (λ z. omega arith))))
+    (λ c. let a = c.args in rw (eq-eqb a.form 0 (omega arith), ne_eqb a.place 0 (λ z. omega arith))))

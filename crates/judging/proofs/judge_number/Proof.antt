@@ -12,15 +12,15 @@ pub judge_number_spec : {M : Type 1} → statement M
 judge_number_spec =
     tie.close
     (tie.spec
-    -- add-if1
+    -- overflow_add-place
     (λ c. search rules)
+    -- returns-then-wiped-generation
+    (λ c.
+    let a = c.args in
+    let due : (a.wiped && eqb a.generation (suc a.place)) ≡ true = rw (add-one a.place) at c.if-wiped-generation.true in
+    rw due)
     -- returns
     (λ c.
-    let a = c.before.args in
-    let due : (a.wiped && eqb a.generation (suc a.place)) ≡ true = rw (add-one a.place) at c.if1.true in
-    rw due)
-    -- returns-2
-    (λ c.
-    let a = c.before.args in
-    let undue : (a.wiped && eqb a.generation (suc a.place)) ≡ false = rw (add-one a.place) at c.if1.false in
+    let a = c.args in
+    let undue : (a.wiped && eqb a.generation (suc a.place)) ≡ false = rw (add-one a.place) at c.if-wiped-generation.false in
     rw undue))

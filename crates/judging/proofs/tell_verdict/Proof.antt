@@ -14,11 +14,11 @@ tell_verdict_spec =
     (λ c κs. search rules)
     (λ c. search rules)
     (λ c. search rules)
-    -- returns
-    (λ c. rw c.before.enum_told.given.1 c.judge-blank.ensures)
-    -- returns-2
-    (λ c. rw c.before.before.found.given.1 c.judge-number.ensures)
-    -- returns-3
-    (λ c. rw c.before.found2.given.1)
-    -- returns-4
-    (λ c. rw c.before.found3.given.1))
+    -- returns-in-Blank
+    (λ c. rw c.in-Blank.is c.judge_blank.ensures)
+    -- returns-in-Number
+    (λ c. rw c.in-Number.is c.judge_number.ensures)
+    -- returns-in-Miscounted
+    (λ c. rw c.in-Miscounted.is)
+    -- returns-in-Beyond
+    (λ c. rw c.in-Beyond.is))
