@@ -17,11 +17,11 @@ field_bytes_spec =
     tie.close
     (tie.spec
     (λ c. search rules)
-    -- mul-result
-    (λ c. let G = c.before.before.requires in record { fits = omega (arith, mul-le-mul G.bounds.m-high (G.small 0)) })
-    -- add-result
-    (λ c. let G = c.before.before.requires in record { fits = omega (arith, mul-le-mul G.bounds.m-high (G.small 0)) })
+    -- overflow_mul-result
+    (λ c. let G = c.requires in record { fits = omega (arith, mul-le-mul G.bounds.m-high (G.small 0)) })
+    -- overflow_add-result
+    (λ c. let G = c.requires in record { fits = omega (arith, mul-le-mul G.bounds.m-high (G.small 0)) })
     -- returns
     (λ c.
-    let G = c.before.before.requires in
+    let G = c.requires in
     (rw (G.each 0), omega (arith, mul-le-mul G.bounds.m-high (G.small 0)))))

@@ -8,13 +8,13 @@ pub lay_second_spec : {M : Type 1} → statement M
 lay_second_spec =
     tie.close
     (tie.spec
-    -- returns
-    (λ c. laid-alike c.before.before.before.requires.0 c.before.if1.true)
+    -- returns-then-p
+    (λ c. laid-alike c.requires.0 c.if-p.true)
     -- second-outline-requires
     (λ c κs. search rules)
     -- lay-into-requires
     (λ c κs. search rules)
-    -- returns-2
+    -- returns
     (λ c.
-    let o = c.before in
-    rw (second-shaped o.before.before.before.before.requires.0 _ o.second-outline.ensures) at c.lay-into.ensures))
+    let o = c in
+    rw (second-shaped o.requires.0 _ o.second_outline.ensures) at c.lay_into.ensures))

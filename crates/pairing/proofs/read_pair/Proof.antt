@@ -8,8 +8,8 @@ pub read_pair_spec : {M : Type 1} → statement M
 read_pair_spec =
     tie.close
     (tie.spec
-    -- returns
-    (λ c. pair-18 c.before.before.before.before.args.p _ _ c.if1.true)
+    -- returns-then-p
+    (λ c. pair-18 c.args.p _ _ c.if-p.true)
     -- array-write-v
     (λ c. search rules)
     -- first-outline-requires
@@ -22,34 +22,34 @@ read_pair_spec =
     (λ c. search rules)
     -- add-second-requires
     (λ c κs.
-    let d = c.before.before.before in
-    let r = d.before.before in
-    let l = r.before.before.before in
-    let o = l.before.before.before in
-    let i = o.before in
-    let a = i.before.before.before.before.args in
-    let e = rw d.reading.given.1 at r.read_by_lem.ensures in
-    let small = first_small a.p a.first.now a.second.now i.if1.false _ o.first-outline.ensures e in
-    (first-laid a.p a.first.now a.second.now i.if1.false _ o.first-outline.ensures e l.lay-into.ensures, small.0, small.1, small.2))
+    let d = c in
+    let r = d in
+    let l = r in
+    let o = l in
+    let i = o in
+    let a = i.args in
+    let e = rw d.in-Read.is at r.read_by-reading.ensures in
+    let small = first_small a.p a.first.now a.second.now i.if-p.false _ o.first_outline-outline.ensures e in
+    (first-laid a.p a.first.now a.second.now i.if-p.false _ o.first_outline-outline.ensures e l.lay_into-refusal.ensures, small.0, small.1, small.2))
     -- enum-known-reading-2
     (λ c. search rules)
-    -- returns-2
+    -- returns-in-Read
     (λ c.
-    let d = c.before.before.before.before in
-    let r = d.before.before in
-    let l = r.before.before.before in
-    let o = l.before.before.before in
-    let i = o.before in
-    let a = i.before.before.before.before.args in
-    let e = rw d.reading.given.1 at r.read_by_lem.ensures in
-    pair-second a.p a.first.now a.second.now i.if1.false _ o.first-outline.ensures e c.add-second.ensures)
-    -- returns-3
+    let d = c in
+    let r = d in
+    let l = r in
+    let o = l in
+    let i = o in
+    let a = i.args in
+    let e = rw d.in-Read.is at r.read_by-reading.ensures in
+    pair-second a.p a.first.now a.second.now i.if-p.false _ o.first_outline-outline.ensures e c.add_second.ensures)
+    -- returns-in-Refused
     (λ c.
-    let d = c.before in
-    let r = d.before.before in
-    let l = r.before.before.before in
-    let o = l.before.before.before in
-    let i = o.before in
-    let a = i.before.before.before.before.args in
-    let e = rw d.reading2.given.1 at r.read_by_lem.ensures in
-    pair-first a.p a.first.now a.second.now i.if1.false _ o.first-outline.ensures d.reading2.given.0.0 e))
+    let d = c in
+    let r = d in
+    let l = r in
+    let o = l in
+    let i = o in
+    let a = i.args in
+    let e = rw d.in-Refused.is at r.read_by-reading.ensures in
+    pair-first a.p a.first.now a.second.now i.if-p.false _ o.first_outline-outline.ensures d.in-Refused.k e))

@@ -1,7 +1,7 @@
 -- `resuming::resume_granted` meets its contract. Assumes nothing.
+use mathlib.Core.Bool.{not}
 use borrow.Author.Rules.{rules}
-use mathlib.Core.Path.{sym, ◌∙◌}
-use borrow.Author.Tests.{not-false}
+use mathlib.Core.Path.{sym, ◌∙◌, ap}
 use Rattle.shapes.specs.Outlines.{outlined}
 use Rattle.code.specs.Calls.{over_range}
 use Rattle.reading.specs.Answers.{SoundCells}
@@ -11,11 +11,11 @@ use Rattle.resuming.proofs.resume_granted.Statement.{statement}
 use Rattle.resuming.proofs.resume_granted.Tie as tie
 
 -- the cells are sound where no refusal returned
-right : (c : tie.Else1) → let a = c.before.before.before.before.before.before.args in SoundCells (outlined a.f a.v.now) a.cells.now
+right : (c : tie.Else-not-is_sound) → let a = c.args in SoundCells (outlined a.f a.v.now) a.cells.now
 right c =
-    let a = c.before.before.before.before.before.before in
-    sym (sound-width a.requires _ _ (c.before.before.before.order.ensures a.args.v.now)) ∙ sym c.before.is-sound.ensures
-    ∙ not-false _ c.if1.false
+    let a = c in
+    sym (sound-width a.requires _ _ (c.order.ensures a.args.v.now)) ∙ sym c.is_sound.ensures
+    ∙ c.if-not-is_sound.false
 
 pub resume_granted_spec : {M : Type 1} → statement M
 unfolding over_range
@@ -25,28 +25,28 @@ resume_granted_spec =
     (λ c κs. search rules)
     (λ c. search rules)
     -- is-sound-requires
-    (λ c κs. let G = c.before.before.before.before.requires in (G.bounds.m-high, G.small 0))
+    (λ c κs. let G = c.requires in (G.bounds.m-high, G.small 0))
     (λ c κs. search rules)
     (λ c. search rules)
-    -- returns
+    -- returns-then-not-is_sound
     (λ c.
-    let unsound = c.before in
-    let a = unsound.before.before.before.before.before.before in
-    resumes-3 a.requires _ _ c.refuse.ensures _ _ (unsound.before.before.before.order.ensures a.args.v.now) unsound.before.is-sound.ensures
-    unsound.if1.true)
+    let unsound = c in
+    let a = unsound in
+    resumes-3 a.requires _ _ c.refuse.ensures _ _ (unsound.order.ensures a.args.v.now) unsound.is_sound.ensures
+    (ap not unsound.if-not-is_sound.true))
     (λ c. search rules)
     (λ c κs. search rules)
     (λ c. search rules)
-    -- returns-2
+    -- returns-then-f-v
     (λ c.
-    let large = c.before in
+    let large = c in
     let e = large.before.before.before in
-    let a = e.before.before.before.before.before.before in
-    resumes-6 a.requires _ _ c.refuse2.ensures (right e) large.if2.true)
+    let a = e in
+    resumes-6 a.requires _ _ c.refuse-then-f-v.ensures (right e.before.before) large.if-f-v.true)
     -- resume-sound-requires
     (λ c κs.
     let e = c.before.before.before.before in
-    let a = e.before.before.before.before.before.before in
-    (a.requires, c.before.if2.false, right e))
+    let a = e in
+    (a.requires, c.if-f-v.false, right e.before))
     (λ c. search rules)
     (λ c. search rules))

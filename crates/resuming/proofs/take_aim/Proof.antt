@@ -19,11 +19,11 @@ take_aim_spec =
     (λ c. search rules)
     -- aim-behind-requires-2
     (λ c κs. search rules)
-    -- returns
+    -- returns-in-Blank
     (λ c. search rules)
-    -- returns-2
+    -- returns-in-Number
     (λ c. search rules)
-    -- returns-3
-    (λ c. rw c.before.before.found.given.1 c.aim-behind.ensures)
-    -- returns-4
-    (λ c. rw c.before.before.found2.given.1 c.aim-behind2.ensures))
+    -- returns-in-Miscounted
+    (λ c. rw c.in-Miscounted.is c.aim_behind.ensures)
+    -- returns-in-Beyond
+    (λ c. rw c.in-Beyond.is c.aim_behind-in-Beyond.ensures))
