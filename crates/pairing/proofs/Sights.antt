@@ -1,6 +1,6 @@
 -- What the fields of a pair tell, from what the functions have found.
 use Prim.Native.Nat.{ℕ, ◌+◌, ◌-◌, ◌%◌, ◌≤◌, ◌<◌}
-use mathlib.Core.Path.{◌≡◌, refl, sym, ◌∙◌}
+use mathlib.Core.Path.{◌≡◌, refl, sym, ◌∙◌, subst}
 use mathlib.Core.Logic.{◌≢◌}
 use mathlib.Core.Bool.{Bool, true, false, cond}
 use mathlib.Core.List.{List, [], ◌∷◌}
@@ -94,12 +94,12 @@ module _ {p : Pair} {v h : List ℕ} (L : Laid p v h) where
     pub second-seen : (bytes : List ℕ) (a : Sight) (u n : ℕ) → a ≡ sighted (outlined f v) false bytes → a ≡ Sees u n →
         Seen (second_shape p) false bytes × (u ≡ taker (field_read (second_shape p) bytes)) × (n ≡ holds (field_read (second_shape p) bytes))
     second-seen bytes a u n e q =
-        sight-seen (second_shape p) false bytes (plan-granted (second_shape p) laid z).ok u n (sym (rw (second-shaped f shaped) at e) ∙ q)
+        sight-seen (second_shape p) false bytes (plan-granted (second_shape p) laid z).ok u n (sym (subst (λ s. a ≡ sighted s false bytes) (second-shaped f shaped) e) ∙ q)
 
     pub second-unseen : (bytes : List ℕ) (a : Sight) (j : Refusal) → a ≡ sighted (outlined f v) false bytes → a ≡ Refused j →
         seen_refusal (second_shape p) false bytes ≡ refusal_of j
     second-unseen bytes a j e q =
-        sight-refused (second_shape p) false bytes (plan-granted (second_shape p) laid z).ok j (sym (rw (second-shaped f shaped) at e) ∙ q)
+        sight-refused (second_shape p) false bytes (plan-granted (second_shape p) laid z).ok j (sym (subst (λ s. a ≡ sighted s false bytes) (second-shaped f shaped) e) ∙ q)
 
 -- What a second field that passed tells is small.
 pub second-small : {p : Pair} {v h : List ℕ} → Laid p v h → {bytes : List ℕ} → Seen (second_shape p) false bytes → {u n : ℕ} →

@@ -8,42 +8,28 @@ pub add_second_spec : {M : Type 1} → statement M
 add_second_spec =
     tie.close
     (tie.spec
-    -- lay-second-requires
+    -- lay_second-refusal-requires
     (λ c κs. search rules)
-    -- returns
-    (λ c. second-no-layout c.before.before.before.before.args.p _ _ _ c.before.lay-second.ensures c.if1.true)
-    -- second-outline-requires
+    -- returns-then-refusal-ne0
+    (λ c. second-no-layout c.args.p _ _ _ c.lay_second-refusal.ensures c.if-refusal-ne0.true)
+    -- second_outline-requires
     (λ c κs. search rules)
-    -- see-field-requires
+    -- see_field-sight-requires
     (λ c κs.
-    let l = c.before.before.before in
-    second-granted l.before.before.before.requires.0 _ c.second-outline.ensures l.lay-second.ensures c.before.before.if1.false)
-    -- enum-known-sight
+    second-granted c.requires.0 _ c.second_outline.ensures c.lay_second-refusal.ensures c.if-refusal-ne0.false)
+    -- enum_known-sight
     (λ c. search rules)
-    -- add-up-requires
+    -- add_up-requires
     (λ c κs.
-    let k = c.before.before.before in
-    let o = k.before in
-    let l = o.before.before.before in
-    let a = l.before.before.before in
-    let S = second-seen a.requires.0 _ o.second-outline.ensures l.lay-second.ensures o.before.before.if1.false _ _ _ _ k.see_field.ensures c.before.sight.given.1 in
-    let small = second-small a.requires.0 S.0 S.1 S.2 in
-    (a.requires.1, small.0, a.requires.2, a.requires.3, small.1, small.2))
-    -- enum-known-sight-2
+    let S = second-seen c.requires.0 _ c.second_outline.ensures c.lay_second-refusal.ensures c.if-refusal-ne0.false _ _ _ _ c.see_field-sight.ensures c.in-Seen.is in
+    let small = second-small c.requires.0 S.0 S.1 S.2 in
+    (c.requires.1, small.0, c.requires.2, c.requires.3, small.1, small.2))
+    -- enum_known-sight-in-Refused-1
     (λ c. search rules)
-    -- returns-2
+    -- returns-in-Seen
     (λ c.
-    let d = c.before in
-    let k = d.before.before.before in
-    let o = k.before in
-    let l = o.before.before.before in
-    let a = l.before.before.before in
-    let S = second-seen a.requires.0 _ o.second-outline.ensures l.lay-second.ensures o.before.before.if1.false _ _ _ _ k.see_field.ensures d.before.sight.given.1 in
-    second-read a.args.p _ _ _ S.0 _ _ S.1 S.2 c.add-up.ensures)
-    -- returns-3
+    let S = second-seen c.requires.0 _ c.second_outline.ensures c.lay_second-refusal.ensures c.if-refusal-ne0.false _ _ _ _ c.see_field-sight.ensures c.in-Seen.is in
+    second-read c.args.p _ _ _ S.0 _ _ S.1 S.2 c.add_up.ensures)
+    -- returns-in-Refused
     (λ c.
-    let k = c.before.before.before in
-    let o = k.before in
-    let l = o.before.before.before in
-    let a = l.before.before.before in
-    second-refused a.args.p _ _ _ c.before.sight2.given.0.0 (second-unseen a.requires.0 _ o.second-outline.ensures l.lay-second.ensures o.before.before.if1.false _ _ _ k.see_field.ensures c.before.sight2.given.1)))
+    second-refused c.args.p _ _ _ c.in-Refused.k (second-unseen c.requires.0 _ c.second_outline.ensures c.lay_second-refusal.ensures c.if-refusal-ne0.false _ _ _ c.see_field-sight.ensures c.in-Refused.is)))

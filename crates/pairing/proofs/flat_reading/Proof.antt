@@ -15,9 +15,9 @@ flat_reading_spec =
     (λ c. search rules)
     (λ c. search rules)
     (λ c κs. search rules)
-    -- returns
-    (λ c. rw c.before.reading.given.1)
-    -- returns-2
+    -- returns-in-Read
+    (λ c. rw c.in-Read.is)
+    -- returns-in-Refused
     (λ c.
-    let k = c.before.before.reading2.given.0.0 in
-    rw c.before.before.reading2.given.1 (read-fields-refused k _ (refusal-told k _ c.flat-refusal.ensures))))
+    let k = c.in-Refused.refusal in
+    rw c.in-Refused.is (read-fields-refused k _ (refusal-told k _ c.flat_refusal-told.ensures))))

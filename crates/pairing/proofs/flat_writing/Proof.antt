@@ -15,9 +15,9 @@ flat_writing_spec =
     (λ c. search rules)
     (λ c. search rules)
     (λ c κs. search rules)
-    -- returns
-    (λ c. rw c.before.writing.given.1)
-    -- returns-2
+    -- returns-in-Written
+    (λ c. rw c.in-Written.is)
+    -- returns-in-Refused
     (λ c.
-    let k = c.before.before.writing2.given.0.0 in
-    rw c.before.before.writing2.given.1 (write-fields-refused k _ (refusal-told k _ c.flat-refusal.ensures))))
+    let k = c.in-Refused.refusal in
+    rw c.in-Refused.is (write-fields-refused k _ (refusal-told k _ c.flat_refusal-told.ensures))))

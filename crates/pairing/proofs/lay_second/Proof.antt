@@ -8,13 +8,12 @@ pub lay_second_spec : {M : Type 1} → statement M
 lay_second_spec =
     tie.close
     (tie.spec
+    -- returns-then-p
+    (λ c. laid-alike c.requires.0 c.if-p.true)
+    -- second_outline-requires
+    (λ c κs. search rules)
+    -- lay_into-requires
+    (λ c κs. search rules)
     -- returns
-    (λ c. laid-alike c.before.before.before.requires.0 c.before.if1.true)
-    -- second-outline-requires
-    (λ c κs. search rules)
-    -- lay-into-requires
-    (λ c κs. search rules)
-    -- returns-2
     (λ c.
-    let o = c.before in
-    rw (second-shaped o.before.before.before.before.requires.0 _ o.second-outline.ensures) at c.lay-into.ensures))
+    rw (second-shaped c.requires.0 _ c.second_outline.ensures) at c.lay_into.ensures))

@@ -8,48 +8,33 @@ pub read_pair_spec : {M : Type 1} → statement M
 read_pair_spec =
     tie.close
     (tie.spec
-    -- returns
-    (λ c. pair-18 c.before.before.before.before.args.p _ _ c.if1.true)
-    -- array-write-v
+    -- returns-then-p
+    (λ c. pair-18 c.args.p _ _ c.if-p.true)
+    -- bounds-v-0
     (λ c. search rules)
-    -- first-outline-requires
+    -- first_outline-outline-requires
     (λ c κs. search rules)
-    -- lay-into-requires
+    -- lay_into-refusal-requires
     (λ c κs. search rules)
-    -- read-by-requires
+    -- read_by-reading-requires
     (λ c κs. search rules)
-    -- enum-known-reading
+    -- enum_known-reading
     (λ c. search rules)
-    -- add-second-requires
+    -- add_second-requires
     (λ c κs.
-    let d = c.before.before.before in
-    let r = d.before.before in
-    let l = r.before.before.before in
-    let o = l.before.before.before in
-    let i = o.before in
-    let a = i.before.before.before.before.args in
-    let e = rw d.reading.given.1 at r.read_by_lem.ensures in
-    let small = first_small a.p a.first.now a.second.now i.if1.false _ o.first-outline.ensures e in
-    (first-laid a.p a.first.now a.second.now i.if1.false _ o.first-outline.ensures e l.lay-into.ensures, small.0, small.1, small.2))
-    -- enum-known-reading-2
+    let a = c.args in
+    let e = rw c.in-Read.is at c.read_by-reading.ensures in
+    let small = first_small a.p a.first.now a.second.now c.if-p.false _ c.first_outline-outline.ensures e in
+    (first-laid a.p a.first.now a.second.now c.if-p.false _ c.first_outline-outline.ensures e c.lay_into-refusal.ensures, small.0, small.1, small.2))
+    -- enum_known-reading-in-Refused-1
     (λ c. search rules)
-    -- returns-2
+    -- returns-in-Read
     (λ c.
-    let d = c.before.before.before.before in
-    let r = d.before.before in
-    let l = r.before.before.before in
-    let o = l.before.before.before in
-    let i = o.before in
-    let a = i.before.before.before.before.args in
-    let e = rw d.reading.given.1 at r.read_by_lem.ensures in
-    pair-second a.p a.first.now a.second.now i.if1.false _ o.first-outline.ensures e c.add-second.ensures)
-    -- returns-3
+    let a = c.args in
+    let e = rw c.in-Read.is at c.read_by-reading.ensures in
+    pair-second a.p a.first.now a.second.now c.if-p.false _ c.first_outline-outline.ensures e c.add_second.ensures)
+    -- returns-in-Refused
     (λ c.
-    let d = c.before in
-    let r = d.before.before in
-    let l = r.before.before.before in
-    let o = l.before.before.before in
-    let i = o.before in
-    let a = i.before.before.before.before.args in
-    let e = rw d.reading2.given.1 at r.read_by_lem.ensures in
-    pair-first a.p a.first.now a.second.now i.if1.false _ o.first-outline.ensures d.reading2.given.0.0 e))
+    let a = c.args in
+    let e = rw c.in-Refused.is at c.read_by-reading.ensures in
+    pair-first a.p a.first.now a.second.now c.if-p.false _ c.first_outline-outline.ensures c.in-Refused.k e))

@@ -1,7 +1,6 @@
 -- `pairing::see_field` meets its contract. Assumes nothing.
 use borrow.Author.Rules.{rules}
 use mathlib.Core.Path.{refl, sym, ◌∙◌}
-use borrow.Author.Tests.{not-true, not-false}
 use Rattle.shapes.specs.Outlines.{outlined}
 use Rattle.reading.specs.Answers.{SoundCells}
 use Rattle.reading.proofs.Looking.{sound-width}
@@ -10,11 +9,10 @@ use Rattle.pairing.proofs.see_field.Statement.{statement}
 use Rattle.pairing.proofs.see_field.Tie as tie
 
 -- the cells are sound where no refusal returned
-right : (c : tie.Else1) → let a = c.before.before.before.before.before.args in SoundCells (outlined a.f a.v.now) a.cells.now
+right : (c : tie.Else-not-is_sound) → let a = c.args in SoundCells (outlined a.f a.v.now) a.cells.now
 right c =
-    let a = c.before.before.before.before.before in
-    sym (sound-width a.requires a.args.cells.now _ (c.before.before.before.order.ensures a.args.v.now)) ∙ sym c.before.is-sound.ensures
-    ∙ not-false _ c.if1.false
+    sym (sound-width c.requires c.args.cells.now _ (c.order.ensures c.args.v.now)) ∙ sym c.is_sound.ensures
+    ∙ c.if-not-is_sound.false
 
 pub see_field_spec : {M : Type 1} → statement M
 see_field_spec =
@@ -22,23 +20,22 @@ see_field_spec =
     (tie.spec
     -- order-requires
     (λ c κs. search rules)
-    -- element-copy-out-is-sound
+    -- bounds-h-0
     (λ c. search rules)
-    -- is-sound-requires
-    (λ c κs. let G = c.before.before.before.requires in (G.bounds.m-high, G.small 0))
-    -- returns
+    -- is_sound-requires
+    (λ c κs. let G = c.requires in (G.bounds.m-high, G.small 0))
+    -- returns-then-not-is_sound
     (λ c.
-    let a = c.before.before.before.before.before in
-    let width = sound-width a.requires a.args.cells.now _ (c.before.before.before.order.ensures a.args.v.now) in
-    sees-3 _ a.args.over _ (sym width ∙ sym c.before.is-sound.ensures ∙ not-true _ c.if1.true))
-    -- returns-2
-    (λ c. sees-6 _ _ _ (right c.before) c.if2.true)
-    -- look-at-requires
-    (λ c κs. let e = c.before.before.before in ((e.before.before.before.before.before.requires, right e), (refl, refl)))
-    -- tell-sight-requires
+    let width = sound-width c.requires c.args.cells.now _ (c.order.ensures c.args.v.now) in
+    sees-3 _ c.args.over _ (sym width ∙ sym c.is_sound.ensures ∙ c.if-not-is_sound.true))
+    -- returns-then-over
+    (λ c. sees-6 _ _ _ (right c.before) c.if-over.true)
+    -- look_at-look-requires
+    (λ c κs. let e = c.before.before.before in ((e.requires, right e), (refl, refl)))
+    -- tell_sight-requires
     (λ c κs. search rules)
-    -- returns-3
+    -- returns
     (λ c.
     let l = c.before in
     let o = l.before.before.before in
-    c.tell-sight.ensures ∙ sees-so _ _ _ (right o.before) o.if2.false l.look_at.ensures.0))
+    c.tell_sight.ensures ∙ sees-so _ _ _ (right o.before) o.if-over.false l.look_at-look.ensures.0))

@@ -12,9 +12,9 @@ tell_sight_spec =
     (λ c. search rules)
     (λ c. search rules)
     (λ c. search rules)
-    -- returns-2
-    (λ c. rw c.before.found.given.1)
-    -- returns-3
-    (λ c. rw c.before.found2.given.1)
-    -- returns-4
-    (λ c. rw c.before.found3.given.1))
+    -- returns-in-Number
+    (λ c. rw c.in-Number.is)
+    -- returns-in-Miscounted
+    (λ c. rw c.in-Miscounted.is)
+    -- returns-in-Beyond
+    (λ c. rw c.in-Beyond.is))

@@ -9,6 +9,6 @@ tell_written_spec =
     (tie.spec
     (λ c. search rules)
     (λ c. search rules)
-    -- returns
-    (λ c. rw c.before.writing.given.1)
+    -- returns-in-Written
+    (λ c. rw c.in-Written.is)
     (λ c. search rules))

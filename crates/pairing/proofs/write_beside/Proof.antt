@@ -12,127 +12,82 @@ unfolding completing first_due second_due
 write_beside_spec =
     tie.close
     (tie.spec
-    -- lay-second-requires
+    -- lay_second-refusal-requires
     (λ c κs. search rules)
-    -- returns
+    -- returns-then-refusal-ne0
     (λ c.
-    let l = c.before in
-    let e = l.before.before.before.before in
-    let a = e.args in
-    let F = first-seen e.requires.0 e.requires.1 in
-    second-no-layout a.p a.due.number a.first.now a.second.now e.requires.0.same F.0 l.lay-second.ensures c.if1.true)
-    -- second-outline-requires
+    let a = c.args in
+    let F = first-seen c.requires.0 c.requires.1 in
+    second-no-layout a.p a.due.number a.first.now a.second.now c.requires.0.same F.0 c.lay_second-refusal.ensures c.if-refusal-ne0.true)
+    -- second_outline-requires
     (λ c κs. search rules)
-    -- see-field-requires
+    -- see_field-sight-requires
     (λ c κs.
-    let o = c.before in
-    let i = o.before.before in
-    let l = i.before in
-    second-granted l.before.before.before.before.requires.0 _ o.second-outline.ensures l.lay-second.ensures i.if1.false)
-    -- enum-known-sight
+    second-granted c.requires.0 _ c.second_outline.ensures c.lay_second-refusal.ensures c.if-refusal-ne0.false)
+    -- enum_known-sight
     (λ c. search rules)
-    -- complete-requires
+    -- complete-x-requires
     (λ c κs.
-    let d = c.before.before.before.before in
-    let k = d.before.before in
-    let o = k.before.before in
-    let i = o.before.before in
-    let l = i.before in
-    let e = l.before.before.before.before in
-    let a = e.args in
-    let F = first-seen e.requires.0 e.requires.1 in
-    let S = second-seen e.requires.0 _ o.second-outline.ensures l.lay-second.ensures i.if1.false _ _ _ _ k.see_field.ensures d.sight.given.1 in
-    first-due a.p a.due.number a.first.now a.second.now e.requires.0.same F.0 S.0 _ S.2)
-    -- first-outline-requires
+    let a = c.args in
+    let F = first-seen c.requires.0 c.requires.1 in
+    let S = second-seen c.requires.0 _ c.second_outline.ensures c.lay_second-refusal.ensures c.if-refusal-ne0.false _ _ _ _ c.see_field-sight.ensures c.in-Seen.is in
+    first-due a.p a.due.number a.first.now a.second.now c.requires.0.same F.0 S.0 _ S.2)
+    -- first_outline-requires
     (λ c κs. search rules)
-    -- write-granted-requires
-    (λ c κs. first-granted c.before.before.before.before.before.before.before.before.before.before.before.before.before.before.before.before.before.before.requires.0 _ c.before.first-outline.ensures)
-    -- tell-written-requires
+    -- write_granted-requires
+    (λ c κs. first-granted c.requires.0 _ c.first_outline.ensures)
+    -- tell_written-requires
     (λ c κs. search rules)
-    -- same-length
+    -- shape_of-first-then-due-p
     (λ c. search rules)
-    -- same-length-2
+    -- shape_of-second-then-due-p
     (λ c. search rules)
-    -- returns-2
+    -- returns-then-due-p
     (λ c.
-    let d = c.before.before.before.before.before.before.before.before.before.before.before in
-    let k = d.before.before in
-    let o = k.before.before in
-    let i = o.before.before in
-    let l = i.before in
-    let e = l.before.before.before.before in
-    let a = e.args in
-    let F = first-seen e.requires.0 e.requires.1 in
-    let S = second-seen e.requires.0 _ o.second-outline.ensures l.lay-second.ensures i.if1.false _ _ _ _ k.see_field.ensures d.sight.given.1 in
-    let w = c.before.before.before in
-    let made = rw (first-shaped e.requires.0 _ w.before.before.first-outline.ensures) at w.write_granted.ensures in
-    writes-first-is a.p a.due.number a.first.now a.second.now e.requires.0.same F.0 S.0 (λ z. w.before.before.before.before.if2.true (F.1 ∙ z)) w.write_granted.result _
-    (w.before.before.before.complete.ensures ∙ rw S.2) made c.tell-written.ensures)
-    -- same-length-3
+    let a = c.args in
+    let F = first-seen c.requires.0 c.requires.1 in
+    let S = second-seen c.requires.0 _ c.second_outline.ensures c.lay_second-refusal.ensures c.if-refusal-ne0.false _ _ _ _ c.see_field-sight.ensures c.in-Seen.is in
+    let made = rw (first-shaped c.requires.0 _ c.first_outline.ensures) at c.write_granted.ensures in
+    writes-first-is a.p a.due.number a.first.now a.second.now c.requires.0.same F.0 S.0 (λ z. c.if-due-p.true (F.1 ∙ z)) c.write_granted.result _
+    (c.complete-x.ensures ∙ rw S.2) made c.tell_written.ensures)
+    -- shape_of-second-then-used-p
     (λ c. search rules)
-    -- returns-3
+    -- returns-then-used-p
     (λ c.
-    let d = c.before.before.before.before.before.before in
-    let k = d.before.before in
-    let o = k.before.before in
-    let i = o.before.before in
-    let l = i.before in
-    let e = l.before.before.before.before in
-    let a = e.args in
-    let F = first-seen e.requires.0 e.requires.1 in
-    let S = second-seen e.requires.0 _ o.second-outline.ensures l.lay-second.ensures i.if1.false _ _ _ _ k.see_field.ensures d.sight.given.1 in
-    writes-5 a.p a.due.number a.first.now a.second.now e.requires.0.same F.0 S.0 (sym F.1 ∙ c.before.before.if2.false) (sym S.1 ∙ c.if3.true))
-    -- complete-requires-2
+    let a = c.args in
+    let F = first-seen c.requires.0 c.requires.1 in
+    let S = second-seen c.requires.0 _ c.second_outline.ensures c.lay_second-refusal.ensures c.if-refusal-ne0.false _ _ _ _ c.see_field-sight.ensures c.in-Seen.is in
+    writes-5 a.p a.due.number a.first.now a.second.now c.requires.0.same F.0 S.0 (sym F.1 ∙ c.if-due-p.false) (sym S.1 ∙ c.if-used-p.true))
+    -- complete-x-requires-in-Seen
     (λ c κs.
-    let d = c.before.before.before.before.before.before in
-    let k = d.before.before in
-    let o = k.before.before in
-    let i = o.before.before in
-    let l = i.before in
-    let e = l.before.before.before.before in
-    let a = e.args in
-    let F = first-seen e.requires.0 e.requires.1 in
-    let S = second-seen e.requires.0 _ o.second-outline.ensures l.lay-second.ensures i.if1.false _ _ _ _ k.see_field.ensures d.sight.given.1 in
-    second-due a.p a.due.number a.first.now a.second.now e.requires.0.same F.0 S.0 _ F.2)
-    -- second-outline-requires-2
+    let a = c.args in
+    let F = first-seen c.requires.0 c.requires.1 in
+    let S = second-seen c.requires.0 _ c.second_outline.ensures c.lay_second-refusal.ensures c.if-refusal-ne0.false _ _ _ _ c.see_field-sight.ensures c.in-Seen.is in
+    second-due a.p a.due.number a.first.now a.second.now c.requires.0.same F.0 S.0 _ F.2)
+    -- second_outline-requires-in-Seen
     (λ c κs. search rules)
-    -- write-granted-requires-2
+    -- write_granted-requires-in-Seen
     (λ c κs.
-    let i = c.before.before.before.before.before.before.before.before.before.before.before.before.before.before.before.before in
-    let l = i.before in
-    second-granted l.before.before.before.before.requires.0 _ c.before.second-outline2.ensures l.lay-second.ensures i.if1.false)
-    -- tell-written-requires-2
+    second-granted c.requires.0 _ c.second_outline-in-Seen.ensures c.lay_second-refusal.ensures c.if-refusal-ne0.false)
+    -- tell_written-requires-in-Seen
     (λ c κs. search rules)
-    -- enum-known-sight-2
+    -- enum_known-sight-in-Refused-1
     (λ c. search rules)
-    -- same-length-4
+    -- shape_of-second-else-used-p
     (λ c. search rules)
-    -- returns-4
+    -- returns-else-used-p
     (λ c.
-    let d = c.before.before.before.before.before.before.before.before.before.before.before.before.before.before in
-    let k = d.before.before in
-    let o = k.before.before in
-    let i = o.before.before in
-    let l = i.before in
-    let e = l.before.before.before.before in
-    let a = e.args in
-    let F = first-seen e.requires.0 e.requires.1 in
-    let S = second-seen e.requires.0 _ o.second-outline.ensures l.lay-second.ensures i.if1.false _ _ _ _ k.see_field.ensures d.sight.given.1 in
-    let w = c.before.before.before in
-    let made = rw (second-shaped e.requires.0 _ w.before.before.second-outline2.ensures) at w.write-granted2.ensures in
-    writes-second-is a.p a.due.number a.first.now a.second.now e.requires.0.same F.0 S.0 (sym F.1 ∙ w.before.before.before.before.before.before.before.if2.false) (λ z. w.before.before.before.before.before.if3.false (S.1 ∙ z)) w.write-granted2.result _
-    (w.before.before.before.before.complete2.ensures ∙ rw F.2) made c.tell-written2.ensures)
-    -- same-length-5
+    let a = c.args in
+    let F = first-seen c.requires.0 c.requires.1 in
+    let S = second-seen c.requires.0 _ c.second_outline.ensures c.lay_second-refusal.ensures c.if-refusal-ne0.false _ _ _ _ c.see_field-sight.ensures c.in-Seen.is in
+    let made = rw (second-shaped c.requires.0 _ c.second_outline-in-Seen.ensures) at c.write_granted-in-Seen.ensures in
+    writes-second-is a.p a.due.number a.first.now a.second.now c.requires.0.same F.0 S.0 (sym F.1 ∙ c.if-due-p.false) (λ z. c.if-used-p.false (S.1 ∙ z)) c.write_granted-in-Seen.result _
+    (c.complete-x-in-Seen.ensures ∙ rw F.2) made c.tell_written-in-Seen.ensures)
+    -- shape_of-second-in-Refused
     (λ c. search rules)
-    -- returns-5
+    -- returns-in-Refused
     (λ c.
-    let d = c.before in
-    let k = d.before.before in
-    let o = k.before.before in
-    let i = o.before.before in
-    let l = i.before in
-    let e = l.before.before.before.before in
-    let a = e.args in
-    let F = first-seen e.requires.0 e.requires.1 in
-    second-refused a.p a.due.number a.first.now a.second.now e.requires.0.same F.0 d.sight2.given.0.0
-    (second-unseen e.requires.0 _ o.second-outline.ensures l.lay-second.ensures i.if1.false _ _ _ k.see_field.ensures d.sight2.given.1)))
+    let a = c.args in
+    let F = first-seen c.requires.0 c.requires.1 in
+    second-refused a.p a.due.number a.first.now a.second.now c.requires.0.same F.0 c.in-Refused.k
+    (second-unseen c.requires.0 _ c.second_outline.ensures c.lay_second-refusal.ensures c.if-refusal-ne0.false _ _ _ c.see_field-sight.ensures c.in-Refused.is)))

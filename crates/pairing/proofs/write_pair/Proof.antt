@@ -11,53 +11,41 @@ pub write_pair_spec : {M : Type 1} → statement M
 write_pair_spec =
     tie.close
     (tie.spec
-    -- returns
-    (λ c. let a = c.before.before.before.before.args in writes-18 a.p a.number a.first.now a.second.now c.if1.true)
-    -- array-write-v
+    -- returns-then-p
+    (λ c. let a = c.args in writes-18 a.p a.number a.first.now a.second.now c.if-p.true)
+    -- bounds-v-0
     (λ c. search rules)
-    -- first-outline-requires
+    -- first_outline-f-requires
     (λ c κs. search rules)
-    -- lay-into-requires
+    -- lay_into-refusal-requires
     (λ c κs. search rules)
-    -- returns-2
+    -- returns-then-refusal-ne0
     (λ c.
-    let l = c.before in
-    let i = l.before.before.before.before in
-    let a = i.before.before.before.before.args in
-    let f = l.before.before.before.first-outline.ensures in
-    first-no-layout a.p a.number a.first.now a.second.now i.if1.false _ f l.lay-into.ensures c.if2.true)
-    -- see-field-requires
-    (λ c κs. plan-granted _ c.before.before.before.before.before.lay-into.ensures c.before.before.before.before.if2.false)
-    -- enum-known-sight
+    let a = c.args in
+    let f = c.first_outline-f.ensures in
+    first-no-layout a.p a.number a.first.now a.second.now c.if-p.false _ f c.lay_into-refusal.ensures c.if-refusal-ne0.true)
+    -- see_field-sight-requires
+    (λ c κs. plan-granted _ c.lay_into-refusal.ensures c.if-refusal-ne0.false)
+    -- enum_known-sight
     (λ c. search rules)
-    -- write-beside-requires
+    -- write_beside-requires
     (λ c κs.
-    let d = c.before.before.before.before.before in
-    let k = d.before.before in
-    let n = d.before.before.before.before.before.before.before in
-    let l = n.before in
-    let i = l.before.before.before.before in
-    let a = i.before.before.before.before.args in
-    let f = l.before.before.before.first-outline.ensures in
-    (laid_so a.p _ i.if1.false f l.lay-into.ensures n.if2.false, seen-so f (leb a.p.v1 a.number) a.first.now k.see_field.ensures d.sight.given.1))
-    -- enum-known-sight-2
+    let a = c.args in
+    let f = c.first_outline-f.ensures in
+    (laid_so a.p _ c.if-p.false f c.lay_into-refusal.ensures c.if-refusal-ne0.false, seen-so f (leb a.p.v1 a.number) a.first.now c.see_field-sight.ensures c.in-Seen.is))
+    -- enum_known-sight-in-Refused-1
     (λ c. search rules)
-    -- same-length
+    -- shape_of-first-in-Seen
     (λ c. search rules)
-    -- same-length-2
+    -- shape_of-second
     (λ c. search rules)
-    -- returns-3
+    -- returns-in-Seen
     (λ c. search rules)
-    -- same-length-3
+    -- shape_of-first-in-Refused
     (λ c. search rules)
-    -- returns-4
+    -- returns-in-Refused
     (λ c.
-    let d = c.before in
-    let k = d.before.before in
-    let n = d.before.before.before.before.before.before.before in
-    let l = n.before in
-    let i = l.before.before.before.before in
-    let a = i.before.before.before.before.args in
-    let f = l.before.before.before.first-outline.ensures in
-    first-unseen a.p a.number a.first.now a.second.now i.if1.false (laid_so a.p _ i.if1.false f l.lay-into.ensures n.if2.false) d.sight2.given.0.0
-    (seen-so f (leb a.p.v1 a.number) a.first.now k.see_field.ensures d.sight2.given.1)))
+    let a = c.args in
+    let f = c.first_outline-f.ensures in
+    first-unseen a.p a.number a.first.now a.second.now c.if-p.false (laid_so a.p _ c.if-p.false f c.lay_into-refusal.ensures c.if-refusal-ne0.false) c.in-Refused.k
+    (seen-so f (leb a.p.v1 a.number) a.first.now c.see_field-sight.ensures c.in-Refused.is)))
