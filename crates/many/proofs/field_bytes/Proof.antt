@@ -1,13 +1,9 @@
 -- `many::field_bytes` meets its contract. Assumes nothing.
-use Prim.Native.Nat.{◌*◌, ◌≤◌}
-use mathlib.Core.Path.{◌≡◌}
 use native.Mathlib.Omega.{arith}
 use native.Mathlib.Nat.{mul-le-mul}
 use borrow.Author.Rules.{rules}
-use lib.ListN.{get_or}
 use Rattle.code.specs.Shape.{width_of}
 use Rattle.code.specs.Many.{field_bytes}
-use Rattle.layout.specs.Plan.{Granted}
 use Rattle.many.proofs.field_bytes.Statement.{statement}
 use Rattle.many.proofs.field_bytes.Tie as tie
 
@@ -17,11 +13,11 @@ field_bytes_spec =
     tie.close
     (tie.spec
     (λ c. search rules)
-    -- mul-result
-    (λ c. let G = c.before.before.requires in record { fits = omega (arith, mul-le-mul G.bounds.m-high (G.small 0)) })
-    -- add-result
-    (λ c. let G = c.before.before.requires in record { fits = omega (arith, mul-le-mul G.bounds.m-high (G.small 0)) })
+    -- overflow_mul-result
+    (λ c. let G = c.requires in record { fits = omega (arith, mul-le-mul G.bounds.m-high (G.small 0)) })
+    -- overflow_add-result
+    (λ c. let G = c.requires in record { fits = omega (arith, mul-le-mul G.bounds.m-high (G.small 0)) })
     -- returns
     (λ c.
-    let G = c.before.before.requires in
+    let G = c.requires in
     (rw (G.each 0), omega (arith, mul-le-mul G.bounds.m-high (G.small 0)))))

@@ -14,48 +14,37 @@ write_all_spec =
     tie.close
     (tie.spec
     (λ c κs. search rules)
-    -- returns
-    (λ c. too_many _ _ _ c.before.if1.true _ _ c.refuse.ensures c.before.before.before.before.requires)
+    -- returns-then-numbers-gt-NUMBERS_MOST
+    (λ c. too_many _ _ _ c.if-numbers-gt-NUMBERS_MOST.true _ _ c.refuse.ensures c.requires)
     (λ c κs. search rules)
     (λ c κs. search rules)
     (λ c κs. search rules)
-    -- returns-2
+    -- returns-then-refusal-ne0
     (λ c.
-    let l = c.before.before in
-    let few = l.before.before.before.before.before in
-    let some = lt_of_le-ne (omega arith) (λ z. c.before.if2.true (sym z)) in
-    let none = plan-refused _ (rw l.before.before.before.before.outline-of.ensures at l.lay-into.ensures) some in
-    no-layout _ _ _ (omega (arith, few.if1.false)) _ none _ _ c.refuse2.ensures few.before.before.before.requires)
-    -- field-bytes-requires
-    (λ c κs. plan-granted _ c.before.before.before.lay-into.ensures c.before.before.if2.false)
-    -- mul-if3
+    let some = lt_of_le-ne (omega arith) (λ z. c.if-refusal-ne0.true (sym z)) in
+    let none = plan-refused _ (rw c.outline_of-f.ensures at c.lay_into-refusal.ensures) some in
+    no-layout _ _ _ (omega (arith, c.if-numbers-gt-NUMBERS_MOST.false)) _ none _ _ c.refuse-then-refusal-ne0.ensures c.requires)
+    -- field_bytes-size-requires
+    (λ c κs. plan-granted _ c.lay_into-refusal.ensures c.if-refusal-ne0.false)
+    -- overflow_mul-numbers
     (λ c.
-    let few = c.before.before.before.before.before.before.before.before.before.if1.false in
-    record { fits = omega (arith, mul-le-mul few c.field-bytes.ensures.1) })
+    let few = c.if-numbers-gt-NUMBERS_MOST.false in
+    record { fits = omega (arith, mul-le-mul few c.field_bytes-size.ensures.1) })
     (λ c κs. search rules)
-    -- returns-3
+    -- returns-then-cells-numbers
     (λ c.
-    let d = c.before in
-    let l = d.before.before.before.before.before in
-    let few = l.before.before.before.before.before in
-    let same = l.before.before.before.before.outline-of.ensures in
-    let G = plan-granted _ (rw same at l.lay-into.ensures) d.before.before.before.before.if2.false in
-    let other = rw (rw same at d.before.field-bytes.ensures.0) at d.if3.true in
-    other_length _ _ _ (omega (arith, few.if1.false)) G.ok other _ _ c.refuse3.ensures few.before.before.before.requires)
-    -- write-fields-requires
+    let same = c.outline_of-f.ensures in
+    let G = plan-granted _ (rw same at c.lay_into-refusal.ensures) c.if-refusal-ne0.false in
+    let other = rw (rw same at c.field_bytes-size.ensures.0) at c.if-cells-numbers.true in
+    other_length _ _ _ (omega (arith, c.if-numbers-gt-NUMBERS_MOST.false)) G.ok other _ _ c.refuse-then-cells-numbers.ensures c.requires)
+    -- write_fields-requires
     (λ c κs.
-    let d = c.before.before.before.before in
-    let l = d.before.before.before.before.before in
-    let few = l.before.before.before.before.before in
-    let G = plan-granted _ l.lay-into.ensures d.before.before.before.before.if2.false in
-    ((G, d.before.field-bytes.ensures.0, omega (arith, few.if1.false), d.if3.false), few.before.before.before.requires))
+    let G = plan-granted _ c.lay_into-refusal.ensures c.if-refusal-ne0.false in
+    ((G, c.field_bytes-size.ensures.0, omega (arith, c.if-numbers-gt-NUMBERS_MOST.false), c.if-cells-numbers.false), c.requires))
     (λ c. search rules)
-    -- returns-4
+    -- returns
     (λ c.
-    let d = c.before.before.before.before.before.before.before in
-    let l = d.before.before.before.before.before in
-    let few = l.before.before.before.before.before in
-    let same = l.before.before.before.before.outline-of.ensures in
-    let G = plan-granted _ (rw same at l.lay-into.ensures) d.before.before.before.before.if2.false in
-    let long = rw (rw same at d.before.field-bytes.ensures.0) at d.if3.false in
-    written-in-order _ _ _ (omega (arith, few.if1.false)) G.ok long (rw same at c.before.before.write-fields.ensures)))
+    let same = c.outline_of-f.ensures in
+    let G = plan-granted _ (rw same at c.lay_into-refusal.ensures) c.if-refusal-ne0.false in
+    let long = rw (rw same at c.field_bytes-size.ensures.0) at c.if-cells-numbers.false in
+    written-in-order _ _ _ (omega (arith, c.if-numbers-gt-NUMBERS_MOST.false)) G.ok long (rw same at c.write_fields.ensures)))

@@ -11,93 +11,87 @@ use Rattle.many.proofs.Small.{field-small}
 use Rattle.many.proofs.write_fields.Statement.{statement}
 use Rattle.many.proofs.write_fields.Tie as tie
 
-abbrev invariant-loop : tie.invariant-loop
-invariant-loop h f v cells₀ size numbers rows₀ j₀ cells rows j = Going (outlined f v) numbers cells₀ cells (take 64 rows) (drop 64 rows) j
+abbrev invariant-loop-j : tie.invariant-loop-j
+invariant-loop-j h f v cells₀ size numbers rows₀ j₀ cells rows j = Going (outlined f v) numbers cells₀ cells (take 64 rows) (drop 64 rows) j
 
-abbrev decreases-loop : tie.decreases-loop
-decreases-loop h f v cells₀ size numbers rows₀ j₀ cells rows j = length numbers - j
+abbrev decreases-loop-j : tie.decreases-loop-j
+decreases-loop-j h f v cells₀ size numbers rows₀ j₀ cells rows j = length numbers - j
 
 -- the field at j stands within the cells
 within : {j n long : ℕ} (size : ℕ) → j < n → long ≡ n * size → j * size + size ≤ long
 within {j} {n} size h e = omega (arith, e, suc-mul j size, mul-le-mul {n₁ = suc j} {m₁ = size} {n₂ = n} {m₂ = size} (omega arith) (omega arith))
 
 -- the numbers of a field's reply fit into the rows
-small : (c : tie.After-known-told invariant-loop decreases-loop) → let given = c.before.generation.given.0 in (given.0 < 65536) × (given.1.0 < 65536)
+small : (c : tie.In-Written invariant-loop-j decreases-loop-j) → (c.in-Written.generation < 65536) × (c.in-Written.turned < 65536)
 small c =
-    let a = c.before.before.before.before.before.before.before.before.before.before.before.before in
-    let w = c.before.before.before.before.before.write-one.ensures in
-    field-small (outlined a.args.f a.args.v.now) a.requires.0.0 _ _ _ _ (rw (c.before.generation.given.1, a.requires.0.1) at w.0)
+    let w = c.write_one.ensures in
+    field-small (outlined c.args.f c.args.v.now) c.requires.0.0 _ _ _ _ (rw (c.in-Written.is, c.requires.0.1) at w.0)
 
 -- a field more
-again : tie.Need-loop-preserved invariant-loop decreases-loop
+again : tie.Need-loop-j-preserved invariant-loop-j decreases-loop-j
 again c =
-    let w = c.before.before.before.before.before.write-one.ensures in
-    let l = c.before.before.before.before.before.before.before.before.before.loop in
-    let a = c.before.before.before.before.before.before.before.before.before.before.before.before in
-    let reply = rw (c.before.generation.given.1, a.requires.0.1) at w.0 in
-    let left = rw a.requires.0.1 at w.1 in
-    rows_next l.rows l.j c.before.generation.given.0.0 c.before.generation.given.0.1.0 (omega (arith, a.requires.0.2)) (going_next l.invariant (omega arith) _ left _ _ (omega (arith, a.requires.0.2)) (rw a.requires.0.1 at a.requires.0.3) reply)
+    let w = c.write_one.ensures in
+    let l = c.loop-j in
+    let reply = rw (c.in-Written.is, c.requires.0.1) at w.0 in
+    let left = rw c.requires.0.1 at w.1 in
+    rows_next l.rows l.j c.in-Written.generation c.in-Written.turned (omega (arith, c.requires.0.2)) (going_next l.invariant (omega arith) _ left _ _ (omega (arith, c.requires.0.2)) (rw c.requires.0.1 at c.requires.0.3) reply)
 
 pub write_fields_spec : {M : Type 1} → statement M
 write_fields_spec =
     tie.close
     (tie.spec
-    invariant-loop
-    decreases-loop
-    -- loop-holds
-    (λ c. let zeros = rows_none c.before.before.requires.1 in going-begin _ _ _ _ _ zeros.0 zeros.1)
-    -- mul-write-one
+    invariant-loop-j
+    decreases-loop-j
+    -- loop-j-init
+    (λ c. let zeros = rows_none c.requires.1 in going-begin _ _ _ _ _ zeros.0 zeros.1)
+    -- overflow_mul-j
     (λ c.
-    let a = c.before.before.before.before.before in
-    record { fits = omega (arith, a.well-formed, within a.args.size c.before.loop-test.true a.requires.0.3) })
-    -- mul-write-one-2
+    record { fits = omega (arith, c.well_formed, within c.args.size c.loop-j-test.true c.requires.0.3) })
+    -- offset_bounds-numbers-j
     (λ c. search rules)
-    -- shared-slice-read-write-one
+    -- bounds-numbers-j
     (λ c. search rules)
-    -- write-one-requires
-    (λ c κs. let a = c.before.before.before.before.before.before in
-    (a.requires.0.0, omega (arith, within a.args.size c.before.before.loop-test.true a.requires.0.3, c.before.before.before.loop.invariant.same)))
-    -- enum-known-generation
+    -- write_one-requires
+    (λ c κs. (c.requires.0.0, omega (arith, within c.args.size c.loop-j-test.true c.requires.0.3, c.loop-j.invariant.same)))
+    -- enum_known-generation
     (λ c. search rules)
-    -- cast-rows
+    -- overflow_cast-rows
     (λ c. record { fits = (small c).0 })
-    -- mul-rows
+    -- offset_bounds-rows-j
     (λ c. search rules)
-    -- element-write-rows
-    (λ c. omega (arith, c.before.before.before.before.before.before.before.before.before.before.before.before.requires.0.2))
-    -- cast-rows-2
-    (λ c. record { fits = (small c).1 })
-    -- add-rows
+    -- bounds-rows-j
+    (λ c. omega (arith, c.requires.0.2))
+    -- overflow_cast-rows-in-Written
+    (λ c. record { fits = (small c.before).1 })
+    -- overflow_add-rows
     (λ c. search rules)
-    -- mul-rows-2
+    -- offset_bounds-rows-j-in-Written
     (λ c. search rules)
-    -- element-write-rows-2
-    (λ c. omega (arith, c.before.before.before.before.before.before.before.before.before.before.before.before.requires.0.2))
-    -- add-j
+    -- bounds-rows-j-in-Written
+    (λ c. omega (arith, c.requires.0.2))
+    -- overflow_add-j
     (λ c. search rules)
-    -- loop-less
+    -- loop-j-smaller
     (λ c. search rules)
-    -- loop-again
+    -- loop-j-preserved
     again
-    -- enum-known-refusal
+    -- enum_known-refusal
     (λ c. search rules)
-    -- flat-refusal-requires
+    -- flat_refusal-told-requires
     (λ c κs. search rules)
-    -- same-length
+    -- shape_of-cells-in-Refused
     (λ c.
-    let w = c.before.before.before.before.before.before.write-one.ensures in
-    let l = c.before.before.before.before.before.before.before.before.before.before.loop in
-    let a = c.before.before.before.before.before.before.before.before.before.before.before.before.before in
-    after_same l.invariant (omega arith) _ (rw a.requires.0.1 at w.1) ∙ l.invariant.same)
+    let w = c.write_one.ensures in
+    let l = c.loop-j in
+    after_same l.invariant (omega arith) _ (rw c.requires.0.1 at w.1) ∙ l.invariant.same)
+    -- returns-in-Refused
+    (λ c.
+    let w = c.write_one.ensures in
+    let l = c.loop-j in
+    let k = c.in-Refused.refusal in
+    let reply = rw (c.in-Refused.is, c.requires.0.1) at w.0 in
+    going-stop l.invariant (omega arith) _ (rw c.requires.0.1 at w.1) k c.flat_refusal-told.result c.flat_refusal-told.ensures reply)
+    -- shape_of-cells
+    (λ c. c.loop-j.invariant.same)
     -- returns
-    (λ c.
-    let w = c.before.before.before.before.before.before.write-one.ensures in
-    let l = c.before.before.before.before.before.before.before.before.before.before.loop in
-    let a = c.before.before.before.before.before.before.before.before.before.before.before.before.before in
-    let k = c.before.before.refusal.given.0.0 in
-    let reply = rw (c.before.before.refusal.given.1, a.requires.0.1) at w.0 in
-    going-stop l.invariant (omega arith) _ (rw a.requires.0.1 at w.1) k c.flat-refusal.result c.flat-refusal.ensures reply)
-    -- same-length-2
-    (λ c. c.before.loop.invariant.same)
-    -- returns-2
-    (λ c. going_end c.before.loop.invariant (omega arith)))
+    (λ c. going_end c.loop-j.invariant (omega arith)))

@@ -20,7 +20,7 @@ write_one_spec =
     (λ c. search rules)
     -- returns
     (λ c.
-    let a = c.before.before.before.before.before.args in
-    let w = c.before.before.write_granted.ensures in
+    let a = c.args in
+    let w = c.write_granted.ensures in
     let put : List ℕ → List ℕ = λ part. take a.at a.cells.now ++ (part ++ drop a.size (drop a.at a.cells.now)) in
     (rw add-sub_cancel_left at w.0, rw add-sub_cancel_left (ap put (rw add-sub_cancel_left at w.1)))))

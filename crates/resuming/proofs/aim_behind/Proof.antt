@@ -7,7 +7,7 @@ pub aim_behind_spec : {M : Type 1} → statement M
 aim_behind_spec =
     tie.close
     (tie.spec
+    -- returns-then-generation-t
+    (λ c. rw (eq-eqb _ _ c.if-generation-t.true))
     -- returns
-    (λ c. rw (eq-eqb _ _ c.if1.true))
-    -- returns-2
-    (λ c. rw (ne_eqb _ _ c.if1.false)))
+    (λ c. rw (ne_eqb _ _ c.if-generation-t.false)))

@@ -7,23 +7,23 @@ pub take_aim_spec : {M : Type 1} → statement M
 take_aim_spec =
     tie.close
     (tie.spec
-    -- enum-told
+    -- enum_told-1
     (λ c. search rules)
-    -- enum-told-2
+    -- enum_told-in-Number
     (λ c. search rules)
-    -- enum-known-found
+    -- enum_known-found
     (λ c. search rules)
-    -- aim-behind-requires
+    -- aim_behind-requires
     (λ c κs. search rules)
-    -- enum-known-found-2
+    -- enum_known-found-in-Beyond-1
     (λ c. search rules)
-    -- aim-behind-requires-2
+    -- aim_behind-requires-in-Beyond
     (λ c κs. search rules)
-    -- returns
+    -- returns-in-Blank
     (λ c. search rules)
-    -- returns-2
+    -- returns-in-Number
     (λ c. search rules)
-    -- returns-3
-    (λ c. rw c.before.before.found.given.1 c.aim-behind.ensures)
-    -- returns-4
-    (λ c. rw c.before.before.found2.given.1 c.aim-behind2.ensures))
+    -- returns-in-Miscounted
+    (λ c. rw c.in-Miscounted.is c.aim_behind.ensures)
+    -- returns-in-Beyond
+    (λ c. rw c.in-Beyond.is c.aim_behind-in-Beyond.ensures))

@@ -17,5 +17,5 @@ tell_spec =
     (λ c κs. search rules)
     -- returns
     (λ c.
-    let a = c.before.before.args in
+    let a = c.args in
     ap₂ (λ (count : ℕ) (bits : List ℕ). 0 ∷ a.generation ∷ a.turned ∷ count ∷ bits) c.report.ensures.1 c.report.ensures.0))
