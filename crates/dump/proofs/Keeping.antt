@@ -1,10 +1,10 @@
 -- The layout that a walk keeps, and what a record tells of its own.
-use Prim.Native.Nat.{ℕ, ◌^◌, ◌<◌, ◌≤◌}
-use mathlib.Core.Path.{◌≡◌, refl, sym, ap, ◌∙◌}
+use Prim.Native.Nat.{ℕ, ◌^◌, ◌<◌}
+use mathlib.Core.Path.{◌≡◌, refl, ap, ◌∙◌}
 use mathlib.Core.Bool.{true, false, cond}
 use mathlib.Core.List.{List, [], ◌∷◌, ◌++◌}
 use native.Mathlib.Omega.{arith}
-use lib.ListN.{length, get_or, take, drop, replicate, get_or-eq_default}
+use lib.ListN.{get_or, take, drop, replicate, get_or-eq_default}
 use Rattle.shapes.specs.declared.Outline.{Outline}
 use Rattle.code.specs.declared.Shape.{Shape}
 use Rattle.code.specs.Shape.{shaped, outside}

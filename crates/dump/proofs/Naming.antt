@@ -11,7 +11,7 @@ use Rattle.code.specs.declared.Kind.TheVariants.{New}
 use Rattle.code.specs.declared.Shape.{Shape}
 use Rattle.code.specs.Calls.{filled, refusal, answer}
 use Rattle.code.specs.LayoutList.{Listed, unlisted, listed_shape, Layouts, broken_list, layouts, layout_list}
-use Rattle.code.specs.Dump.{Opening, barred, entered, behind_list, opening_as, opening}
+use Rattle.code.specs.Dump.{barred, entered, behind_list, opening_as, opening}
 use Rattle.code.specs.NewDump.{listed_as, listed_behind, listed_reply, listed_fields}
 use Rattle.code.proofs.Tests.{clash}
 use Rattle.records.specs.Source.{layouts_at, source_of}

@@ -105,7 +105,7 @@ pub fn open_new(dump: &[u8]) -> Opened
 
 // What a record's layout is like, its ranges up to the first, which is the only one but in form 2.
 #[repr(C)]
-#[derive(Drop)]
+#[derive(Clone, Copy)]
 pub struct Brief {
     pub form: u64,
     pub m: u64,

@@ -1,7 +1,7 @@
 -- Document 02, §8, of the calls together: "What our writer makes is always accepted".
 use Prim.Native.Nat.{ℕ}
 use mathlib.Core.Path.{◌≡◌, ◌∙◌}
-use mathlib.Core.List.{List, [], ◌∷◌}
+use mathlib.Core.List.{List}
 use Rattle.code.specs.declared.Shape.{Shape}
 use Rattle.code.specs.Calls.{write_reply, write_leaves}
 use Rattle.code.specs.JudgeCall.{judge_reply}

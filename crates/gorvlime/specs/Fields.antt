@@ -1,5 +1,5 @@
 -- Documents 01 and 02 (RULES 13): the numbers of a C struct in the order of its fields: the reply, with 0 in the fields that it lacks.
-use Rattle.std.specs.Prelude.{ℕ, ◌+◌, cond, List, [], ◌∷◌, ◌++◌, ltb, eqb, length, get_or, take, drop}
+use Rattle.std.specs.Prelude.{ℕ, ◌+◌, cond, List, [], ◌∷◌, ◌++◌, ltb, eqb, length, take, drop}
 use Rattle.code.specs.Calls.{filled, read_fields, refusal_in}
 use Rattle.code.specs.Dump.{count_in, start_in}
 use Rattle.gorvlime.specs.declared.c.MadeAnswer.{MadeAnswer}

@@ -1,7 +1,7 @@
 -- Laws of an import: a line tested test by test, a text checked line by line, its data stored.
-use mathlib.Core.Path.{◌≡◌, refl, sym, ap, ◌∙◌}
+use mathlib.Core.Path.{◌≡◌}
 use mathlib.Core.Logic.{inl, inr}
-use mathlib.Core.Bool.{Bool, true, false, not, ◌&&◌}
+use mathlib.Core.Bool.{true, false, not, ◌&&◌}
 use mathlib.Core.List.{List, [], ◌∷◌, ◌++◌}
 use Prim.Native.Nat.{ℕ, ◌+◌, ◌*◌, ◌-◌, ◌%◌, ◌≤◌, ◌<◌}
 use native.Mathlib.Omega.{arith}
@@ -10,9 +10,7 @@ use lib.ListN.{length, get_or, take}
 use lib.Seq.{take-suc}
 use lib.Dec.{leb, ltb, eqb}
 use borrow.Author.Tests.{lt-ltb, le-ltb, le-leb, lt-leb}
-use Rattle.code.specs.Hex.{line_bytes, data_count, data_address, line_type, all_spelled, laden_end, wrong_sum, displaced}
-use Rattle.code.specs.Lists.{list_sum}
-use Rattle.code.proofs.HexLines.{line_size}
+use Rattle.code.specs.Hex.{data_address, line_type, all_spelled, laden_end, wrong_sum, displaced}
 use Rattle.code.proofs.Tests.{le-or-lt, both_true}
 use Rattle.code.proofs.HexLines.{is_false, spelled-small, next-is, size-within}
 use Rattle.hextext.specs.declared.import.Line.{Line}

@@ -1,14 +1,12 @@
 -- What reading one layout knows: how many ranges follow, and where they go.
 use mathlib.Core.Path.{◌≡◌, refl, sym, ap, subst, ◌∙◌}
-use mathlib.Core.Logic.{◌⊎◌, inl, inr}
-use mathlib.Core.Bool.{true, false}
+use mathlib.Core.Bool.{true}
 use mathlib.Core.List.{List, [], ◌∷◌, ◌++◌}
 use Prim.Native.Nat.{ℕ, zero, suc, ◌-◌, ◌≤◌, ◌<◌}
 use native.Mathlib.Omega.{arith}
 use native.Mathlib.Nat.{sub-zero, suc-sub-suc}
 use lib.ListN.{length, get_or, take, drop, replicate, length-take, length-append, length-drop, take-append-drop}
 use lib.Seq.{take_at, drop_at}
-use lib.Dec.{leb}
 use borrow.Author.Tests.{le-leb, lt-leb, eq-eqb, ne_eqb}
 use Rattle.shapes.specs.declared.Outline.{Outline}
 use Rattle.code.specs.Shape.{shaped, ranges_due}
@@ -16,7 +14,7 @@ use Rattle.shapes.specs.Outlines.{outlined}
 use Rattle.code.specs.Calls.{filled}
 use Rattle.code.specs.Numerals as Numerals
 use Rattle.code.specs.Numerals.{read_numbers}
-use Rattle.code.specs.LayoutList.{unlisted, listed_by, listed_shape, uncounted, followed, read_layout}
+use Rattle.code.specs.LayoutList.{listed_by, listed_shape, uncounted, followed, read_layout}
 use Rattle.code.proofs.Tests.{and-false}
 use Rattle.code.proofs.LayoutCall.{padded}
 use Rattle.code.proofs.LayoutLists.{layout-cut, layout-uncounted, layout-behind}

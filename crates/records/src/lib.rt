@@ -27,7 +27,7 @@ pub struct Said {
 }
 
 // A record's head: its cells are the `count` bytes from `start` on.
-#[derive(Drop)]
+#[derive(Clone, Copy)]
 pub struct Head {
     pub serial: u64,
     pub said: Said,

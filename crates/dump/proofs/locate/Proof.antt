@@ -10,19 +10,19 @@ pub locate_spec : {M : Type 1} → statement M
 locate_spec =
     tie.close
     (tie.spec
-    -- returns
-    (λ c. sym (ready-ended c.before.before.before.requires _ (omega arith)))
-    -- read-head-requires
+    -- returns-then-dump-at
+    (λ c. sym (ready-ended c.requires _ (omega arith)))
+    -- read_head-requires
     (λ c κs. search rules)
-    -- enum-known-head
+    -- enum_known-head
     (λ c. search rules)
-    -- enum-known-offset
+    -- enum_known-offset
     (λ c. search rules)
-    -- returns-2
+    -- returns-in-Whole
     (λ c.
-    let whole = rw c.before.head.given.1 at c.before.before.before.read_head.ensures in
-    whole ∙ sym (ready-inside c.before.before.before.before.before.before.before.requires _ (omega arith)))
-    -- returns-3
+    let whole = rw c.in-Whole.is at c.read_head.ensures in
+    whole ∙ sym (ready-inside c.requires _ (omega arith)))
+    -- returns-in-Malformed
     (λ c.
-    let broken = rw c.before.offset.given.1 at c.before.before.before.read_head.ensures in
-    broken ∙ sym (ready-inside c.before.before.before.before.before.before.before.requires _ (omega arith))))
+    let broken = rw c.in-Malformed.is at c.read_head.ensures in
+    broken ∙ sym (ready-inside c.requires _ (omega arith))))

@@ -9,15 +9,15 @@ pub open_spec : {M : Type 1} → statement M
 open_spec =
     tie.close
     (tie.spec
-    -- returns
-    (λ c. long-barred _ _ _ (omega arith) c.before.before.requires)
-    -- enum_told
+    -- returns-then-dump-gt-DUMP_MOST
+    (λ c. long-barred _ _ _ (omega arith) c.requires)
+    -- enum_told-1
     (λ c. search rules)
-    -- enum-told-2
+    -- enum_told-in-New
     (λ c. search rules)
-    -- open-list-requires
-    (λ c κs. (omega arith, c.before.before.before.before.before.requires))
-    -- returns-2
-    (λ c. rw c.enum_told.given.1 (old-opens _ _ (omega arith) c.before.before.before.before.requires))
-    -- returns-3
-    (λ c. rw c.before.before.enum-told2.given.1 c.open-list.ensures))
+    -- open_list-requires
+    (λ c κs. (omega arith, c.requires))
+    -- returns-in-Old
+    (λ c. rw c.in-Old.is (old-opens _ _ (omega arith) c.requires))
+    -- returns-in-New
+    (λ c. rw c.in-New.is c.open_list.ensures))

@@ -8,17 +8,15 @@ pub open_list_spec : {M : Type 1} → statement M
 open_list_spec =
     tie.close
     (tie.spec
-    -- read-list-requires
+    -- read_list-requires
     (λ c κs. search rules)
-    -- enum-known-start
+    -- enum_known-start
     (λ c. search rules)
-    -- enum_told
+    -- enum_told-1
     (λ c. search rules)
-    -- returns
+    -- returns-in-Whole
     (λ c.
-    let r = c.before.before.before in
-    list-opens _ _ r.before.before.before.requires.0 r.read-list.ensures c.before.start.given.1)
-    -- returns-2
+    list-opens _ _ c.requires.0 c.read_list.ensures c.in-Whole.is)
+    -- returns-in-Broken
     (λ c.
-    let r = c.before.before in
-    list-broken _ _ r.before.before.before.requires.0 r.read-list.ensures c.enum_told.given.1))
+    list-broken _ _ c.requires.0 c.read_list.ensures c.in-Broken.is))

@@ -12,19 +12,19 @@ step_at_spec =
     (tie.spec
     -- open-requires
     (λ c κs. search rules)
-    -- enum-known-start
+    -- enum_known-start
     (λ c. search rules)
-    -- sub-step-in
+    -- slice_bounds-step_in-count
     (λ c. search rules)
-    -- part-step-in-start
+    -- slice_bounds-step_in-start
     (λ c. search rules)
-    -- part-step-in-end
-    (λ c. omega (arith, opened-few c.before.before.before.before.«open».ensures c.before.before.start.given.1))
-    -- step-in-requires
-    (λ c κs. rw sub-zero (opened-ready c.before.before.before.before.before.«open».ensures c.before.before.before.start.given.1))
-    -- enum-known-halt
+    -- slice_bounds-step_in-end
+    (λ c. omega (arith, opened-few c.«open».ensures c.in-Records.is))
+    -- step_in-requires
+    (λ c κs. rw sub-zero (opened-ready c.«open».ensures c.in-Records.is))
+    -- enum_known-halt
     (λ c. search rules)
-    -- returns
+    -- returns-in-Records
     (λ c. c.step_in.ensures)
-    -- returns-2
-    (λ c. barred-reply c.before.before.before.«open».ensures c.before.halt.given.1 _))
+    -- returns-in-Barred
+    (λ c. barred-reply c.«open».ensures c.in-Barred.is _))

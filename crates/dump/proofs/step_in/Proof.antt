@@ -14,23 +14,22 @@ step_in_spec =
     (tie.spec
     -- locate-requires
     (λ c κs. search rules)
-    -- enum-known-head
+    -- enum_known-head
     (λ c. search rules)
-    -- work-out-requires
+    -- work_out-made-requires
     (λ c κs. search rules)
-    -- step-planned-requires
-    (λ c κs. c.before.before.work-out.ensures.1.planned)
-    -- enum_told
+    -- step_planned-requires
+    (λ c κs. c.work_out-made.ensures.1.planned)
+    -- enum_told-1
     (λ c. search rules)
-    -- enum-known-halt
+    -- enum_known-halt
     (λ c. search rules)
-    -- returns
+    -- returns-in-Record
     (λ c.
-    let made = c.before.before.before.work-out.ensures in
-    let found = c.before.before.before.before.before.before.before in
-    c.step-planned.ensures _ (made.1.same ∙ ap (said_shape _) made.0)
-    ∙ located-reply _ _ _ (rw found.head.given.1 at found.before.before.locate.ensures))
-    -- returns-2
-    (λ c. located-reply _ _ _ (rw c.enum_told.given.1 at c.before.before.locate.ensures))
-    -- returns-3
-    (λ c. located-reply _ _ _ (rw c.before.halt.given.1 at c.before.before.before.locate.ensures)))
+    let made = c.work_out-made.ensures in
+    c.step_planned.ensures _ (made.1.same ∙ ap (said_shape _) made.0)
+    ∙ located-reply _ _ _ (rw c.in-Record.is at c.locate.ensures))
+    -- returns-in-End
+    (λ c. located-reply _ _ _ (rw c.in-End.is at c.locate.ensures))
+    -- returns-in-Stop
+    (λ c. located-reply _ _ _ (rw c.in-Stop.is at c.locate.ensures)))

@@ -12,23 +12,21 @@ step_kept_spec =
     tie.close
     (tie.spec
     -- locate-requires
-    (λ c κs. c.before.before.requires.0)
-    -- enum-known-head
+    (λ c κs. c.requires.0)
+    -- enum_known-head
     (λ c. search rules)
-    -- step-record-requires
-    (λ c κs. c.before.before.before.before.before.before.before.before.requires.1)
-    -- enum_told
+    -- step_record-requires
+    (λ c κs. c.requires.1)
+    -- enum_told-1
     (λ c. search rules)
-    -- enum-known-halt
+    -- enum_known-halt
     (λ c. search rules)
-    -- returns
+    -- returns-in-Record
     (λ c.
-    let made = c.step-record.ensures in
-    let r = c.before.before.before.before in
-    (made.0 ∙ located-reply _ _ _ (rw r.head.given.1 at r.before.before.locate.ensures), made.1))
-    -- returns-2
-    (λ c. let l = c.before.before in (located-reply _ _ _ (rw c.enum_told.given.1 at l.locate.ensures), l.before.before.before.requires.1))
-    -- returns-3
+    let made = c.step_record.ensures in
+    (made.0 ∙ located-reply _ _ _ (rw c.in-Record.is at c.locate.ensures), made.1))
+    -- returns-in-End
+    (λ c. (located-reply _ _ _ (rw c.in-End.is at c.locate.ensures), c.requires.1))
+    -- returns-in-Stop
     (λ c.
-    let l = c.before.before.before in
-    (located-reply _ _ _ (rw c.before.halt.given.1 at l.locate.ensures), l.before.before.before.requires.1)))
+    (located-reply _ _ _ (rw c.in-Stop.is at c.locate.ensures), c.requires.1)))

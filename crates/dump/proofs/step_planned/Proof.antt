@@ -13,4 +13,4 @@ step_planned_spec =
     (λ c. search rules)
     (λ c κs. search rules)
     -- returns
-    (λ c source said. record-told _ source _ said c.record_of.ensures c.before.before.read_by_lem.ensures c.before.before.before.part.ensures))
+    (λ c source said. record-told _ source _ said c.record_of-record.ensures c.read_by-outcome.ensures c.part.ensures))

@@ -9,11 +9,11 @@ pub step_record_spec : {M : Type 1} → statement M
 step_record_spec =
     tie.close
     (tie.spec
-    -- renew-requires
+    -- renew-next-requires
     (λ c κs. search rules)
-    -- step-planned-requires
-    (λ c κs. c.before.before.renew.ensures.1.planned)
+    -- step_planned-step-requires
+    (λ c κs. c.renew-next.ensures.1.planned)
     -- returns
     (λ c.
-    let next = c.before.before.before.renew.ensures in
-    (c.step-planned.ensures _ (next.1.same ∙ ap (said_shape _) next.0), next.1)))
+    let next = c.renew-next.ensures in
+    (c.step_planned-step.ensures _ (next.1.same ∙ ap (said_shape _) next.0), next.1)))

@@ -4,7 +4,6 @@ use mathlib.Core.Path.{◌≡◌, refl, sym, ◌∙◌}
 use mathlib.Core.List.{[], ◌∷◌}
 use native.Mathlib.Omega.{arith}
 use borrow.Author.Rules.{rules}
-use borrow.Author.Tests.{not-true, not-false}
 use lib.ListN.{length}
 use Rattle.code.specs.Lists.{Below}
 use Rattle.code.specs.Cells.{sound}
@@ -19,41 +18,41 @@ use Rattle.exports.proofs.export_cells.Statement.{statement}
 use Rattle.exports.proofs.export_cells.Tie as tie
 
 -- where no refusal of the layout returned
-granted-here : (c : tie.Else1) →
-    let a = c.before.before.before.before.before.before.args in
-    Granted (outlined a.f a.v.now) c.before.lay-into.new.0
-granted-here c = plan-granted _ c.before.lay-into.ensures (omega arith)
+granted-here : (c : tie.Else-refusal-ne0) →
+    let a = c.args in
+    Granted (outlined a.f a.v.now) c.lay_into-refusal.new.h
+granted-here c = plan-granted _ c.lay_into-refusal.ensures (omega arith)
 
-below-here : (c : tie.Else1) → Below (2 ^ 63) c.before.before.before.before.before.before.args.head.now
-below-here c = c.before.before.before.before.before.before.requires.0 (granted-here c).bounds
+below-here : (c : tie.Else-refusal-ne0) → Below (2 ^ 63) c.args.head.now
+below-here c = c.requires.0 (granted-here c).bounds
 
-sound-here : (c : tie.After-is-sound) →
-    let a = c.before.before.before.before.before.before.before.before.args in
+sound-here : (c : tie.After-is_sound) →
+    let a = c.args in
     let s = outlined a.f a.v.now in
-    c.is-sound.result ≡ sound (order_of s) s.m (width_of s) a.cells.now
+    c.is_sound.result ≡ sound (order_of s) s.m (width_of s) a.cells.now
 unfolding width_of
 sound-here c =
-    let a = c.before.before.before.before.before.before.before.before.args in
-    rw ((granted-here c.before.before).each 0, c.before.order.ensures a.v.now) at c.is-sound.ensures
+    let a = c.args in
+    rw ((granted-here c.before.before).each 0, c.order.ensures a.v.now) at c.is_sound.ensures
 
-length-here : (c : tie.After-record-length) →
-    let a = c.before.before.before.before.before.before.before.before.before.before.args in
-    c.record-length.result ≡ length (record_of a.head.now a.cells.now)
-length-here c = c.record-length.ensures _ refl
+length-here : (c : tie.After-record_length) →
+    let a = c.args in
+    c.record_length.result ≡ length (record_of a.head.now a.cells.now)
+length-here c = c.record_length.ensures _ refl
 
-room-here : (c : tie.Else3) →
-    let a = c.before.before.before.before.before.before.before.before.before.before.before.args in
+room-here : (c : tie.Else-out-record_length) →
+    let a = c.args in
     length (record_of a.head.now a.cells.now) ≤ length a.out.now
 room-here c = omega (arith, length-here c.before)
 
 -- where the output is too short
-refused-here : (c : tie.Then3) →
-    let a = c.before.before.before.before.before.before.before.before.before.before.before.args in
+refused-here : (c : tie.Then-out-record_length) →
+    let a = c.args in
     Exported (outlined a.f a.v.now) a.head.now a.cells.now a.out.now (9 ∷ []) a.out.now
 refused-here c =
     let s = c.before.before.before in
     let G = granted-here s.before.before in
-    let whole = sym (sound-here s) ∙ not-false s.is-sound.result c.before.before.if2.false in
+    let whole = sym (sound-here s) ∙ c.if-not-is_sound.false in
     export-crowded _ _ _ _ G.ok whole (omega (arith, length-here c.before))
 
 pub export_cells_spec : {M : Type 1} → statement M
@@ -61,31 +60,31 @@ export_cells_spec =
     tie.close
     (tie.spec
     (λ c κs. search rules)
-    -- returns
-    (λ c. export-refused _ _ _ _ _ (plan-refused _ c.before.lay-into.ensures (omega arith)))
+    -- returns-then-refusal-ne0
+    (λ c. export-refused _ _ _ _ _ (plan-refused _ c.lay_into-refusal.ensures (omega arith)))
     (λ c κs. search rules)
     (λ c. search rules)
-    -- is-sound-requires
+    -- is_sound-requires
     (λ c κs. let G = granted-here c.before in (G.bounds.m-high, G.small 0))
-    -- returns-2
+    -- returns-then-not-is_sound
     (λ c.
     let s = c.before in
     let G = granted-here s.before.before in
-    export-spoiled _ _ _ _ G.ok (sym (sound-here s) ∙ not-true s.is-sound.result c.if2.true))
-    -- record-length-requires
+    export-spoiled _ _ _ _ G.ok (sym (sound-here s) ∙ c.if-not-is_sound.true))
+    -- record_length-requires
     (λ c κs.
     let e = c.before.before.before in
-    (below-here e, omega (arith, e.before.before.before.before.before.before.requires.1), omega arith))
-    -- returns-3
+    (below-here e, omega (arith, e.requires.1), omega arith))
+    -- returns-then-out-record_length
     (λ c. refused-here c)
-    -- put-record-requires
+    -- put_record-requires
     (λ c κs. let e = c.before.before.before.before.before.before in ((below-here e, omega arith), omega (arith, length-here c.before.before)))
     (λ c. search rules)
-    -- returns-4
+    -- returns
     (λ c.
     let left = c.before.before.before.before.before.before in
     let s = left.before in
     let G = granted-here s.before.before in
-    let whole = sym (sound-here s) ∙ not-false s.is-sound.result left.if2.false in
+    let whole = sym (sound-here s) ∙ left.if-not-is_sound.false in
     let room = room-here c.before.before.before.before in
-    front-made _ _ _ _ c.before.before.put_record.ensures room (export-made _ _ _ _ G.ok whole room)))
+    front-made _ _ _ _ c.put_record.ensures room (export-made _ _ _ _ G.ok whole room)))

@@ -19,35 +19,35 @@ use Rattle.exports.proofs.export_layout.Statement.{statement}
 use Rattle.exports.proofs.export_layout.Tie as tie
 
 -- the layout of the shape, as it is laid
-laid-here : (c : tie.After-lay-into) → let s = c.before.before.before.before.before.before.args.shape in
-    c.lay-into.result ∷ c.lay-into.new.0 ≡ filled layout_fields (layout_reply s 256)
-laid-here c = rw c.before.before.outline-of.ensures at c.lay-into.ensures
+laid-here : (c : tie.After-lay_into-refusal) → let s = c.args.shape in
+    c.lay_into-refusal.result ∷ c.lay_into-refusal.new.h ≡ filled layout_fields (layout_reply s 256)
+laid-here c = rw c.outline_of.ensures at c.lay_into-refusal.ensures
 
 -- where no refusal of it returned
-granted-here : (c : tie.Else1) → Granted c.before.before.before.before.before.before.before.args.shape c.before.lay-into.new.0
+granted-here : (c : tie.Else-refusal-ne0) → Granted c.args.shape c.lay_into-refusal.new.h
 granted-here c = plan-granted _ (laid-here c.before) (omega arith)
 
-long-array : (c : tie.Else1) → length c.before.before.before.before.before.before.before.args.shape.v ≡ 16
+long-array : (c : tie.Else-refusal-ne0) → length c.args.shape.v ≡ 16
 long-array c = search rules
 
 -- its ranges are within their array
-few-here : (c : tie.Else1) → let s = c.before.before.before.before.before.before.before.args.shape in s.count ≤ length s.v
+few-here : (c : tie.Else-refusal-ne0) → let s = c.args.shape in s.count ≤ length s.v
 few-here c = omega (arith, count-few _ (granted-here c).bounds, long-array c)
 
-below-here : (c : tie.Else1) → let s = c.before.before.before.before.before.before.before.args.shape in
+below-here : (c : tie.Else-refusal-ne0) → let s = c.args.shape in
     Below (2 ^ 63) (s.form ∷ s.m ∷ s.t ∷ []) × Below (2 ^ 63) (take s.count s.v)
 below-here c = numbers-below _ (granted-here c).bounds (few-here c)
 
 -- both lengths together are that of the layout
-long-here : (c : tie.After-numbers-length2) →
-    let s = c.before.before.before.before.before.before.before.before.before.before.before.before.args.shape in
-    c.before.before.before.numbers-length.result + c.numbers-length2.result ≡ length (numerals_of (numbers_of s))
+long-here : (c : tie.After-numbers_length-2) →
+    let s = c.args.shape in
+    c.numbers_length.result + c.numbers_length-2.result ≡ length (numerals_of (numbers_of s))
 long-here c =
-    let s = c.before.before.before.before.before.before.before.before.before.before.before.before.args.shape in
+    let s = c.args.shape in
     let front = numerals_of (s.form ∷ s.m ∷ s.t ∷ []) in
     let ranges = numerals_of (take s.count s.v) in
-    let parts = ap length (numbers-parts s (few-here c.before.before.before.before.before)) in
-    omega (arith, parts, length-append front ranges, c.before.before.before.numbers-length.ensures, rw sub-zero at c.numbers-length2.ensures)
+    let parts = ap length (numbers-parts s (few-here c.before.before.before.before)) in
+    omega (arith, parts, length-append front ranges, c.numbers_length.ensures, rw sub-zero at c.numbers_length-2.ensures)
 
 pub export_layout_spec : {M : Type 1} → statement M
 export_layout_spec =
@@ -55,52 +55,52 @@ export_layout_spec =
     (tie.spec
     (λ c κs. search rules)
     (λ c κs. search rules)
-    -- returns
+    -- returns-then-refusal-ne0
     (λ c. listed-refused _ _ _ (plan-refused _ (laid-here c.before) (omega arith)))
     (λ c. search rules)
-    -- numbers-length-requires
+    -- numbers_length-requires
     (λ c κs. ((below-here c.before).0, omega arith))
     (λ c. search rules)
     (λ c. search rules)
-    -- part-numbers-length-end
-    (λ c. omega (arith, few-here c.before.before.before))
-    -- numbers-length-requires-2
+    -- slice_bounds-numbers_length-end-2
+    (λ c. omega (arith, few-here c.before.before))
+    -- numbers_length-requires-2
     (λ c κs.
-    let e = c.before.before.before.before in
-    let s = e.before.before.before.before.before.before.before.args.shape in
+    let e = c.before.before.before in
+    let s = e.args.shape in
     (rw sub-zero (below-here e).1, omega (arith, length-take (s.count - 0) s.v, count-few s (granted-here e).bounds)))
-    -- add-if2
+    -- overflow_add-numbers_length
     (λ c.
-    let s = c.before.before.before.before.before.before.before.before.before.before.before.before.args.shape in
-    omega (arith, long-here c, numerals-few (numbers_of s), given-length s, count-few s (granted-here c.before.before.before.before.before).bounds))
-    -- returns-2
-    (λ c. listed-crowded _ _ (granted-here c.before.before.before.before.before.before).ok (long-here c.before) (omega arith))
+    let s = c.args.shape in
+    omega (arith, long-here c, numerals-few (numbers_of s), given-length s, count-few s (granted-here c.before.before.before.before).bounds))
+    -- returns-then-out-numbers_length
+    (λ c. listed-crowded _ _ (granted-here c.before.before.before.before.before).ok (long-here c.before) (omega arith))
     (λ c. search rules)
-    -- write-numbers-requires
+    -- write_numbers-behind-requires
     (λ c κs.
     let n = c.before.before.before in
-    let s = n.before.before.before.before.before.before.before.before.before.before.before.before.args.shape in
-    let e = n.before.before.before.before.before in
-    ((below-here e).0, omega (arith, long-here n, n.before.before.before.numbers-length.ensures)))
+    let s = n.args.shape in
+    let e = n.before.before.before.before in
+    ((below-here e).0, omega (arith, long-here n, n.numbers_length.ensures)))
     (λ c. search rules)
     (λ c. search rules)
-    -- part-write-numbers-end
-    (λ c. omega (arith, few-here c.before.before.before.before.before.before.before.before.before.before.before.before.before))
-    -- write-numbers-requires-2
+    -- slice_bounds-write_numbers-end-2
+    (λ c. omega (arith, few-here c.before.before.before.before.before.before.before.before.before.before.before))
+    -- write_numbers-requires
     (λ c κs.
-    let e = c.before.before.before.before.before.before.before.before.before.before.before.before.before.before in
-    let n = c.before.before.before.before.before.before.before.before.before in
-    let w = c.before.before.before.before.before.write-numbers.ensures in
-    let front = n.before.before.before.numbers-length.ensures in
-    let ranges = rw sub-zero at n.numbers-length2.ensures in
+    let e = c.before.before.before.before.before.before.before.before.before.before.before.before in
+    let n = c.before.before.before.before.before.before.before.before in
+    let w = c.write_numbers-behind.ensures in
+    let front = c.numbers_length.ensures in
+    let ranges = rw sub-zero at c.numbers_length-2.ensures in
     (rw sub-zero (below-here e).1, rw sub-zero (omega (arith, long-here n, w.ends, put-length w, ranges, front))))
     (λ c. search rules)
-    -- returns-3
+    -- returns
     (λ c.
-    let n = c.before.before.before.before.before.before.before.before.before.before.before.before in
-    let e = n.before.before.before.before.before in
-    let w = c.before.before.before.before.before.before.before.before.write-numbers.ensures in
-    let more = rw sub-zero at c.before.before.write-numbers2.ensures in
-    let s = n.before.before.before.before.before.before.before.before.before.before.before.before.args.shape in
-    let room = c.before.before.before.before.before.before.before.before.before.before.before.if2.false in
+    let n = c.before.before.before.before.before.before.before.before.before.before.before in
+    let e = n.before.before.before.before in
+    let w = c.write_numbers-behind.ensures in
+    let more = rw sub-zero at c.write_numbers.ensures in
+    let s = c.args.shape in
+    let room = c.if-out-numbers_length.false in
     listed-made _ _ (granted-here e).ok (long-here n) (omega (arith, room)) (rw (numbers-parts s (few-here e)) (put_then w more))))

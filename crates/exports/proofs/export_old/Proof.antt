@@ -11,14 +11,14 @@ pub export_old_spec : {M : Type 1} → statement M
 export_old_spec =
     tie.close
     (tie.spec
-    -- returns
-    (λ c. let a = c.before.before.before.args in export-late (old_export a.serial a.m a.t a.v) _ _ (omega arith))
+    -- returns-then-serial-ge-SERIAL_END
+    (λ c. let a = c.args in export-late (old_export a.serial a.m a.t a.v) _ _ (omega arith))
     (λ c. search rules)
     (λ c. search rules)
-    -- export-cells-requires
+    -- export_cells-requires
     (λ c κs. (λ b. (omega arith, (omega (arith, b.m-high), (omega (arith, b.t-high), (omega (arith, b.v_high 0 (omega arith)), tt)))), omega arith))
     (λ c. search rules)
-    -- returns-2
+    -- returns
     (λ c.
-    let a = c.before.before.before.before.before.before.before.before.before.args in
-    c.before.before.export-cells.ensures (old_export a.serial a.m a.t a.v) refl refl (omega arith) refl))
+    let a = c.args in
+    c.export_cells.ensures (old_export a.serial a.m a.t a.v) refl refl (omega arith) refl))

@@ -12,20 +12,20 @@ pub export_record_spec : {M : Type 1} → statement M
 export_record_spec =
     tie.close
     (tie.spec
-    -- returns
-    (λ c. let a = c.before.before.before.args in export-late (new_export a.serial a.layout a.shape) _ _ (omega arith))
-    -- returns-2
+    -- returns-then-serial-ge-SERIAL_END
+    (λ c. let a = c.args in export-late (new_export a.serial a.layout a.shape) _ _ (omega arith))
+    -- returns-then-layout-gt63
     (λ c.
-    let a = c.before.before.before.before.args in
+    let a = c.args in
     export-off-list (new_export a.serial a.layout a.shape) _ _ (omega arith) (lt-ltb 63 a.layout (omega arith)))
     (λ c κs. search rules)
     (λ c. search rules)
-    -- export-cells-requires
+    -- export_cells-requires
     (λ c κs. (λ b. (omega arith, (omega arith, tt)), omega arith))
     (λ c. search rules)
-    -- returns-3
+    -- returns
     (λ c.
-    let a = c.before.before.before.before.before.before.before.before.before.before.before.before.args in
+    let a = c.args in
     let x = new_export a.serial a.layout a.shape in
-    let shape = sym c.before.before.before.before.before.before.outline-of.ensures in
-    c.before.before.export-cells.ensures x shape refl (omega arith) (le-ltb 63 a.layout (omega arith))))
+    let shape = sym c.outline_of.ensures in
+    c.export_cells.ensures x shape refl (omega arith) (le-ltb 63 a.layout (omega arith))))

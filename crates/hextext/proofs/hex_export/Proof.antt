@@ -14,32 +14,32 @@ pub hex_export_spec : {M : Type 1} → statement M
 hex_export_spec =
     tie.close
     (tie.spec
-    -- returns
-    (λ c. export-many _ _ c.if1.true)
-    -- add-if2
+    -- returns-then-bytes-gt-BYTES_MOST
+    (λ c. export-many _ _ c.if-bytes-gt-BYTES_MOST.true)
+    -- overflow_add-bytes
     (λ c. search rules)
-    -- mul-if2
+    -- overflow_mul-bytes
     (λ c. search rules)
-    -- mul-if2-2
+    -- overflow_mul-bytes-2
     (λ c. search rules)
-    -- add-if2-2
+    -- overflow_add-bytes-2
     (λ c. search rules)
-    -- add-if2-3
+    -- overflow_add-bytes-3
     (λ c. search rules)
-    -- returns-2
-    (λ c. let a = c.before.before.before.before.args in export-short _ _ (omega arith) (omega (arith, text-length a.bytes.now)))
-    -- put-lines-requires
+    -- returns-then-out-bytes
+    (λ c. let a = c.args in export-short _ _ (omega arith) (omega (arith, text-length a.bytes.now)))
+    -- put_lines-at-requires
     (λ c κs. search rules)
-    -- put-end-requires
+    -- put_end-requires
     (λ c κs.
-    let lines = c.before.before.before in
-    let bytes = lines.before.before.before.before.before.before.args.bytes.now in
-    omega (arith, lines.put-lines.ensures.ends, lines-length (line_count (length bytes)) 0 bytes refl))
-    -- same-length
+    let lines = c in
+    let bytes = lines.args.bytes.now in
+    omega (arith, lines.put_lines-at.ensures.ends, lines-length (line_count (length bytes)) 0 bytes refl))
+    -- shape_of-out
     (λ c. search rules)
-    -- returns-3
+    -- returns
     (λ c.
     let end = c.before.before in
-    let lines = end.before.before.before.before in
-    let bytes = lines.before.before.before.before.before.before.args.bytes.now in
-    exports bytes (omega arith) (omega (arith, text-length bytes)) lines.put-lines.ensures end.put-end.ensures))
+    let lines = end in
+    let bytes = lines.args.bytes.now in
+    exports bytes (omega arith) (omega (arith, text-length bytes)) lines.put_lines-at.ensures end.put_end.ensures))

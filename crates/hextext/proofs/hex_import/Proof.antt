@@ -8,28 +8,28 @@ use Rattle.hextext.proofs.Checking.{imports-short, imports-right}
 use Rattle.hextext.proofs.hex_import.Statement.{statement}
 use Rattle.hextext.proofs.hex_import.Tie as tie
 
-right : (c : tie.After-known-told2) → Counts c.before.before.before.before.before.before.args.text.now (Right c.before.all.given.0.0)
-right c = subst (Counts _) c.before.all.given.1 c.before.before.before.check-text.ensures
+right : (c : tie.In-Right) → Counts c.args.text.now (Right c.in-Right.all)
+right c = subst (Counts _) c.in-Right.is c.check_text.ensures
 
 pub hex_import_spec : {M : Type 1} → statement M
 hex_import_spec =
     tie.close
     (tie.spec
-    -- check-text-requires
+    -- check_text-requires
     (λ c κs. search rules)
-    -- enum-known-k
+    -- enum_known-k
     (λ c. search rules)
-    -- enum-known-all
+    -- enum_known-all
     (λ c. search rules)
-    -- returns
-    (λ c. imports-short _ _ _ (right c.before) c.if1.true)
-    -- put-all-data-requires
-    (λ c κs. c.before.if1.false)
-    -- returns-2
-    (λ c. import-faulty _ _ _ (subst (Counts _) c.before.k.given.1 c.before.before.before.check-text.ensures))
-    -- same-length
+    -- returns-then-out-all
+    (λ c. imports-short _ _ _ (right c.before) c.if-out-all.true)
+    -- put_all_data-requires
+    (λ c κs. c.if-out-all.false)
+    -- returns-in-Wrong
+    (λ c. import-faulty _ _ _ (subst (Counts _) c.in-Wrong.is c.check_text.ensures))
+    -- shape_of-out
     (λ c. search rules)
-    -- returns-3
+    -- returns-else-out-all
     (λ c.
     let fits = c.before.before.before.before in
-    imports-right _ _ (right fits.before) fits.if1.false (c.before.before.put-all-data.ensures (right fits.before))))
+    imports-right _ _ (right fits.before) fits.if-out-all.false (c.put_all_data.ensures (right fits.before))))

@@ -14,59 +14,51 @@ use Rattle.listing.proofs.Telling.{Keeping, keeping, keeping-as, Filling, fillin
 use Rattle.listing.proofs.fill.Statement.{statement}
 use Rattle.listing.proofs.fill.Tie as tie
 
-abbrev invariant-loop : tie.invariant-loop
-invariant-loop dump kind places out₀ s₀ v₀ h₀ kept₀ end₀ out s v h kept end =
+abbrev invariant-loop-out : tie.invariant-loop-out
+invariant-loop-out dump kind places out₀ s₀ v₀ h₀ kept₀ end₀ out s v h kept end =
     (s.over ≡ false) × (lines_most ≤ length out₀) × Filling kind dump s₀ out₀ out s end × Keeping kind dump kept v h
 
-abbrev decreases-loop : tie.decreases-loop
-decreases-loop dump kind places out₀ s₀ v₀ h₀ kept₀ end₀ out s v h kept end = dump_most - s.next
+abbrev decreases-loop-out : tie.decreases-loop-out
+decreases-loop-out dump kind places out₀ s₀ v₀ h₀ kept₀ end₀ out s v h kept end = dump_most - s.next
 
 pub fill_spec : {M : Type 1} → statement M
 fill_spec =
     tie.close
     (tie.spec
-    invariant-loop
-    decreases-loop
-    -- keep-none-requires
+    invariant-loop-out
+    decreases-loop-out
+    -- keep_none-kept-requires
     (λ c κs. search rules)
-    -- loop-holds
+    -- loop-out-init
     (λ c.
-    let b = c.before.before.before.before in
-    let p = b.requires in
-    let few = places-few b.args.kind _ _ (omega arith) in
-    (p.2, p.3, filling-begin _ _ _ _ p.1, keeping p.0.opens (c.keep-none.ensures _ few)))
-    -- sub-loop
+    let p = c.requires in
+    let few = places-few c.args.kind _ _ (omega arith) in
+    (p.2, p.3, filling-begin _ _ _ _ p.1, keeping p.0.opens (c.keep_none-kept.ensures _ few)))
+    -- overflow_sub-out
     (λ c. search rules)
-    -- step-kept-requires
+    -- step_kept-stepped-requires
     (λ c κs.
-    let l = c.before.before.before in
-    let ready = l.before.before.before.before.before.requires.0 in
-    (ready, keeping-as ready.opens l.loop.invariant.3))
-    -- tell-step-requires
+    let ready = c.requires.0 in
+    (ready, keeping-as ready.opens c.loop-out.invariant.3))
+    -- tell_step-told-requires
     (λ c κs.
-    let k = c.before.before in
-    let l = k.before.before.before.before.loop in
-    ((l.invariant.2.standing, l.invariant.0, omega arith), k.step_kept.ensures.0))
-    -- same-length
+    let l = c.loop-out in
+    ((l.invariant.2.standing, l.invariant.0, omega arith), c.step_kept-stepped.ensures.0))
+    -- shape_of-out-then-s
     (λ c.
-    let t = c.before.before.before.before in
-    put-length t.tell-step.ensures.put.put ∙ t.before.before.before.before.before.before.before.loop.invariant.2.same)
+    put-length c.tell_step-told.ensures.put.put ∙ c.loop-out.invariant.2.same)
+    -- returns-then-s
+    (λ c.
+    let v = c.loop-out.invariant in
+    filling-end (filling-next v.2 v.0 (omega arith) c.tell_step-told.ensures) (λ on. clash (cc)))
+    -- loop-out-smaller
+    (λ c. let told = c.tell_step-told.ensures in omega (arith, told.further c.if-s.false, told.standing.within))
+    -- loop-out-preserved
+    (λ c.
+    let v = c.loop-out.invariant in
+    let ready = c.requires.0 in
+    (c.if-s.false, v.1, filling-next v.2 v.0 (omega arith) c.tell_step-told.ensures, keeping ready.opens c.step_kept-stepped.ensures.1))
+    -- shape_of-out
+    (λ c. search rules)
     -- returns
-    (λ c.
-    let t = c.before.before.before.before in
-    let v = t.before.before.before.before.before.before.before.loop.invariant in
-    filling-end (filling-next v.2 v.0 (omega arith) t.tell-step.ensures) (λ on. clash (cc)))
-    -- loop-less
-    (λ c. let told = c.before.before.before.before.tell-step.ensures in omega (arith, told.further c.if1.false, told.standing.within))
-    -- loop-again
-    (λ c.
-    let t = c.before.before.before.before in
-    let k = t.before.before.before in
-    let l = k.before.before.before.before in
-    let v = l.loop.invariant in
-    let ready = l.before.before.before.before.before.requires.0 in
-    (c.if1.false, v.1, filling-next v.2 v.0 (omega arith) t.tell-step.ensures, keeping ready.opens k.step_kept.ensures.1))
-    -- same-length-2
-    (λ c. search rules)
-    -- returns-2
-    (λ c. let f = c.before.loop.invariant.2 in filling-end f (f.further (omega arith))))
+    (λ c. let f = c.loop-out.invariant.2 in filling-end f (f.further (omega arith))))

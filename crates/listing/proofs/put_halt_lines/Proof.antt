@@ -9,21 +9,21 @@ pub put_halt_lines_spec : {M : Type 1} → statement M
 put_halt_lines_spec =
     tie.close
     (tie.spec
-    -- enum-known-halt
+    -- enum_known-halt
     (λ c. search rules)
-    -- put-stop-lines-requires
+    -- put_stop_lines-requires
     (λ c κs. search rules)
-    -- enum_told
+    -- enum_told-1
     (λ c. search rules)
-    -- put-oversize-line-requires
+    -- put_oversize_line-requires
     (λ c κs. search rules)
-    -- same-length
+    -- shape_of-out-in-Malformed
     (λ c. search rules)
-    -- returns
-    (λ c. rw c.before.before.before.before.before.halt.given.1 (wider (omega arith) c.before.before.put-stop-lines.ensures))
-    -- same-length-2
+    -- returns-in-Malformed
+    (λ c. rw c.in-Malformed.is (wider (omega arith) c.put_stop_lines.ensures))
+    -- shape_of-out-in-Oversize
     (λ c. search rules)
-    -- returns-2
+    -- returns-in-Oversize
     (λ c.
-    let count = c.before.before.before.before.before.before.before.args.count in
-    rw c.before.before.before.before.enum_told.given.1 (wider (omega arith) (c.before.before.put-oversize-line.ensures count))))
+    let count = c.args.count in
+    rw c.in-Oversize.is (wider (omega arith) (c.put_oversize_line.ensures count))))

@@ -12,32 +12,30 @@ pub tell_outcome_spec : {M : Type 1} → statement M
 tell_outcome_spec =
     tie.close
     (tie.spec
-    -- enum-known-outcome
+    -- enum_known-outcome
     (λ c. search rules)
-    -- put-reading-line-requires
+    -- put_reading_line-end-requires
     (λ c κs. search rules)
-    -- enum-known-outcome-2
+    -- enum_known-outcome-in-Refused-1
     (λ c. search rules)
-    -- flat-refusal-requires
+    -- flat_refusal-told-requires
     (λ c κs. search rules)
-    -- put-refusal-line-requires
+    -- put_refusal_line-end-requires
     (λ c κs.
-    let k = c.before.before.before.outcome2.given.0.0 in
-    let refusing = rw c.before.before.before.outcome2.given.1 at c.before.before.before.before.before.before.requires.1 in
-    ((refused-line 0 _ k (refusal-told k c.before.flat-refusal.result c.before.flat-refusal.ensures).number refusing).0, omega arith))
-    -- same-length
+    let k = c.in-Refused.refusal in
+    let refusing = rw c.in-Refused.is at c.requires.1 in
+    ((refused-line 0 _ k (refusal-told k c.flat_refusal-told.result c.flat_refusal-told.ensures).number refusing).0, omega arith))
+    -- shape_of-out-in-Read
     (λ c. search rules)
-    -- returns
+    -- returns-in-Read
     (λ c.
-    let read = c.before.before.before.before.before.outcome.given.1 in
-    (same-listing refl refl (omega arith), rw read c.before.before.put-reading-line.ensures))
-    -- same-length-2
+    let read = c.in-Read.is in
+    (same-listing refl refl (omega arith), rw read c.put_reading_line-end.ensures))
+    -- shape_of-out-in-Refused
     (λ c. search rules)
-    -- returns-2
+    -- returns-in-Refused
     (λ c.
-    let a = c.before.before.before.before.before.before.before.before.before in
-    let known = c.before.before.before.before.before.before.outcome2.given in
-    let k = known.0.0 in
-    let f = c.before.before.before.before.flat-refusal in
-    let line = (refused-line a.args.serial _ k (refusal-told k f.result f.ensures).number (rw known.1 at a.requires.1)).1 in
-    (same-listing refl refl (omega arith), rw (known.1, ← line) (wider (omega arith) c.before.before.put-refusal-line.ensures))))
+    let k = c.in-Refused.refusal in
+    let f = c.flat_refusal-told in
+    let line = (refused-line c.args.serial _ k (refusal-told k f.result f.ensures).number (rw c.in-Refused.is at c.requires.1)).1 in
+    (same-listing refl refl (omega arith), rw (c.in-Refused.is, ← line) (wider (omega arith) c.put_refusal_line-end.ensures))))

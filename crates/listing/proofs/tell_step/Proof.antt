@@ -10,52 +10,42 @@ pub tell_step_spec : {M : Type 1} → statement M
 tell_step_spec =
     tie.close
     (tie.spec
-    -- enum-known-step
+    -- enum_known-step
     (λ c. search rules)
-    -- add-go-on
+    -- overflow_add-record
     (λ c.
-    let r = c.before.before in
-    omega (arith, (record-further _ _ _ r.before.before.before.before.requires.1 r.step.given.1).1))
-    -- go-on-requires
+    omega (arith, (record-further _ _ _ c.requires.1 c.in-Record.is).1))
+    -- go_on-listing-requires
     (λ c κs.
-    let r = c.before.before in
-    let a = r.before.before.before.before in
-    let f = record-further _ _ _ a.requires.1 r.step.given.1 in
-    (a.requires.0.0, f.0, f.1))
-    -- tell-outcome-requires
+    let f = record-further _ _ _ c.requires.1 c.in-Record.is in
+    (c.requires.0.0, f.0, f.1))
+    -- tell_outcome-requires
     (λ c κs.
-    let r = c.before.before.before.before in
-    (omega arith, record-refusing _ _ _ r.before.before.before.before.requires.1 r.step.given.1))
-    -- enum_told
+    (omega arith, record-refusing _ _ _ c.requires.1 c.in-Record.is))
+    -- enum_told-1
     (λ c. search rules)
-    -- put-last-line-requires
+    -- put_last_line-end-requires
     (λ c κs. search rules)
-    -- close-requires
+    -- close-listing-requires
     (λ c κs. search rules)
-    -- enum-known-step-2
+    -- enum_known-step-in-Stop-1
     (λ c. search rules)
-    -- put-halt-lines-requires
+    -- put_halt_lines-end-requires
     (λ c κs. search rules)
-    -- close-requires-2
+    -- close-listing-requires-in-Stop
     (λ c κs. search rules)
-    -- same-length
+    -- shape_of-out-in-Record
     (λ c. search rules)
-    -- returns
+    -- returns-in-Record
     (λ c.
-    let r = c.before.before.before.before.before.before.before in
-    let a = r.before.before.before.before in
-    tells-record a.requires.0.1 a.requires.1 r.step.given.1 c.before.before.before.before.go_on.ensures c.before.before.tell-outcome.ensures)
-    -- same-length-2
+    tells-record c.requires.0.1 c.requires.1 c.in-Record.is c.go_on-listing.ensures c.tell_outcome.ensures)
+    -- shape_of-out-in-End
     (λ c. search rules)
-    -- returns-2
+    -- returns-in-End
     (λ c.
-    let e = c.before.before.before.before.before in
-    let a = e.before.before.before.before in
-    tells-end a.requires.0.1 a.requires.1 e.enum_told.given.1 c.close.ensures c.before.before.before.put-last-line.ensures)
-    -- same-length-3
+    tells-end c.requires.0.1 c.requires.1 c.in-End.is c.close-listing.ensures c.put_last_line-end.ensures)
+    -- shape_of-out-in-Stop
     (λ c. search rules)
-    -- returns-3
+    -- returns-in-Stop
     (λ c.
-    let h = c.before.before.before.before.before.before in
-    let a = h.before.before.before.before in
-    tells-stop a.requires.0.1 a.requires.1 h.step2.given.1 c.close2.ensures c.before.before.before.put-halt-lines.ensures))
+    tells-stop c.requires.0.1 c.requires.1 c.in-Stop.is c.close-listing-in-Stop.ensures c.put_halt_lines-end.ensures))

@@ -18,19 +18,17 @@ move_to_new_spec =
     (λ c. search rules)
     (λ c. search rules)
     (λ c. search rules)
-    -- part-move-records-end
-    (λ c. omega (arith, opened-few c.before.before.before.before.«open».ensures c.before.before.layouts.given.1))
-    -- move-records-requires
+    -- slice_bounds-move_records-end
+    (λ c. omega (arith, opened-few c.«open».ensures c.in-Records.is))
+    -- move_records-requires
     (λ c κs.
-    let s = c.before.before.before.before in
-    rw sub-zero (begins-old _ _ _ (opened-begins s.before.before.«open».ensures s.layouts.given.1)))
+    rw sub-zero (begins-old _ _ _ (opened-begins c.«open».ensures c.in-Records.is)))
     (λ c. search rules)
     (λ c κs. search rules)
     (λ c. search rules)
-    -- returns
-    (λ c. c.before.before.move-records.ensures)
-    -- returns-2
+    -- returns-in-Records
+    (λ c. c.move_records.ensures)
+    -- returns-in-Barred
     (λ c.
-    let h = c.before.before in
-    let m = moves-new _ _ (move-halted _ _ _ _ _ h.halt.given.0.0 (opened-stops h.before.before.«open».ensures h.halt.given.1)) in
-    (c.stop-move.ensures ∙ m.0, m.1)))
+    let m = moves-new _ _ (move-halted _ _ _ _ _ c.in-Barred.halt (opened-stops c.«open».ensures c.in-Barred.is)) in
+    (c.stop_move.ensures ∙ m.0, m.1)))

@@ -19,13 +19,13 @@ put_moved_spec =
     (λ c. search rules)
     (λ c. search rules)
     (λ c. search rules)
-    -- put-record-requires
+    -- put_record-requires
     (λ c κs.
     let s = c.before.before.before.before.before.before in
     let h = s.args.head in
-    rw (part-is s) ((s.requires.0.0, omega (arith, s.well-formed, part-long s.args.dump.now h.start h.count s.requires.0.1)), s.requires.1))
+    rw (part-is s) ((s.requires.0.0, omega (arith, s.well_formed, part-long s.args.dump.now h.start h.count s.requires.0.1)), s.requires.1))
     (λ c. search rules)
     -- returns
     (λ c.
     let s = c.before.before.before.before.before.before.before.before.before in
-    rw (part-is s) at c.before.before.put_record.ensures))
+    rw (part-is s) at c.put_record.ensures))

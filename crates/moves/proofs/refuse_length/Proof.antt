@@ -11,9 +11,9 @@ unfolding length_refusal refusal
 refuse_length_spec =
     tie.close
     (tie.spec
+    -- returns-then-length-gt-DUMP_MOST
+    (λ c. let a = c.args in simp (lt-ltb 65536 a.«length» (omega arith)))
+    -- returns-then-room-length
+    (λ c. let a = c.args in simp (le-ltb 65536 a.«length» (omega arith), lt-ltb a.room a.«length» (omega arith)))
     -- returns
-    (λ c. let a = c.before.args in simp (lt-ltb 65536 a.«length» (omega arith)))
-    -- returns-2
-    (λ c. let a = c.before.before.args in simp (le-ltb 65536 a.«length» (omega arith), lt-ltb a.room a.«length» (omega arith)))
-    -- returns-3
-    (λ c. let a = c.before.before.args in simp (le-ltb 65536 a.«length» (omega arith), le-ltb a.room a.«length» (omega arith))))
+    (λ c. let a = c.args in simp (le-ltb 65536 a.«length» (omega arith), le-ltb a.room a.«length» (omega arith))))

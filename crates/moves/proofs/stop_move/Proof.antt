@@ -9,5 +9,5 @@ stop_move_spec =
     (tie.spec
     (λ c. search rules)
     (λ c. search rules)
-    (λ c. rw c.before.halt.given.1)
-    (λ c. rw c.enum_told.given.1))
+    (λ c. rw c.in-Malformed.is)
+    (λ c. rw c.in-Oversize.is))

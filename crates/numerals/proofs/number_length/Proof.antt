@@ -9,24 +9,24 @@ use Rattle.code.proofs.Digits.{sevens-last, sevens-next, sevens-few}
 use Rattle.numerals.proofs.number_length.Statement.{statement}
 use Rattle.numerals.proofs.number_length.Tie as tie
 
-abbrev invariant-loop : tie.invariant-loop
-invariant-loop x rest₀ count₀ rest count = (rest < 2 ^ 63) × (count + length (sevens 9 rest) ≡ length (sevens 9 x) + 1)
+abbrev invariant-loop-rest : tie.invariant-loop-rest
+invariant-loop-rest x rest₀ count₀ rest count = (rest < 2 ^ 63) × (count + length (sevens 9 rest) ≡ length (sevens 9 x) + 1)
 
-abbrev decreases-loop : tie.decreases-loop
-decreases-loop x rest₀ count₀ rest count = rest
+abbrev decreases-loop-rest : tie.decreases-loop-rest
+decreases-loop-rest x rest₀ count₀ rest count = rest
 
 pub number_length_spec : {M : Type 1} → statement M
 number_length_spec =
     tie.close (tie.spec
-    invariant-loop
-    decreases-loop
-    -- loop-holds
+    invariant-loop-rest
+    decreases-loop-rest
+    -- loop-rest-init
     (λ c. search rules)
-    -- add-count
-    (λ c. omega (arith, sevens-few 9 c.before.before.args.x))
-    -- loop-less
+    -- overflow_add-count
+    (λ c. omega (arith, sevens-few 9 c.args.x))
+    -- loop-rest-smaller
     (λ c. search rules)
-    -- loop-again
-    (λ c. let s = c.before.loop in omega (arith, ap length (sevens-next 8 s.rest c.loop-test.true s.invariant.0)))
+    -- loop-rest-preserved
+    (λ c. let s = c.loop-rest in omega (arith, ap length (sevens-next 8 s.rest c.loop-rest-test.true s.invariant.0)))
     -- returns
-    (λ c. omega (arith, ap length (sevens-last 8 c.before.loop.rest c.loop-test.false))))
+    (λ c. omega (arith, ap length (sevens-last 8 c.loop-rest.rest c.loop-rest-test.false))))

@@ -10,37 +10,37 @@ use Rattle.code.proofs.Records.{below_at, length-next, numerals-part, numerals-f
 use Rattle.numerals.proofs.numbers_length.Statement.{statement}
 use Rattle.numerals.proofs.numbers_length.Tie as tie
 
-abbrev invariant-loop : tie.invariant-loop
-invariant-loop numbers total₀ i₀ total i = (i ≤ length numbers) × (total ≡ length (numerals_of (take i numbers)))
+abbrev invariant-loop-i : tie.invariant-loop-i
+invariant-loop-i numbers total₀ i₀ total i = (i ≤ length numbers) × (total ≡ length (numerals_of (take i numbers)))
 
-abbrev decreases-loop : tie.decreases-loop
-decreases-loop numbers total₀ i₀ total i = length numbers - i
+abbrev decreases-loop-i : tie.decreases-loop-i
+decreases-loop-i numbers total₀ i₀ total i = length numbers - i
 
 pub numbers_length_spec : {M : Type 1} → statement M
 unfolding numerals_of
 numbers_length_spec =
     tie.close
     (tie.spec
-    invariant-loop
-    decreases-loop
+    invariant-loop-i
+    decreases-loop-i
     (λ c. search rules)
     (λ c. search rules)
     (λ c. search rules)
-    -- number-length-requires
+    -- number_length-total-requires
     (λ c κs.
-    below_at (2 ^ 63) c.before.before.before.before.args.numbers.now c.before.before.loop.i c.before.before.before.before.requires.0
-    c.before.loop-test.true)
-    -- add-total
+    below_at (2 ^ 63) c.args.numbers.now c.loop-i.i c.requires.0
+    c.loop-i-test.true)
+    -- overflow_add-total
     (λ c.
-    let xs = c.before.before.before.before.before.args.numbers.now in let i = c.before.before.before.loop.i in
-    omega (arith, length-next xs i c.before.before.loop-test.true, numerals-part xs (i + 1), numerals-few xs))
+    let xs = c.args.numbers.now in let i = c.loop-i.i in
+    omega (arith, length-next xs i c.loop-i-test.true, numerals-part xs (i + 1), numerals-few xs))
     (λ c. search rules)
     (λ c. search rules)
-    -- loop-again
+    -- loop-i-preserved
     (λ c.
-    let xs = c.before.before.before.before.before.args.numbers.now in
-    (omega arith, omega (arith, length-next xs c.before.before.before.loop.i c.before.before.loop-test.true)))
+    let xs = c.args.numbers.now in
+    (omega arith, omega (arith, length-next xs c.loop-i.i c.loop-i-test.true)))
     -- returns
     (λ c.
-    let i : c.before.loop.i ≡ length c.before.before.before.args.numbers.now = omega arith in
-    rw (i, take-length) at c.before.loop.invariant.1))
+    let i : c.loop-i.i ≡ length c.args.numbers.now = omega arith in
+    rw (i, take-length) at c.loop-i.invariant.1))

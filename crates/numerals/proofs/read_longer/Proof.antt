@@ -8,65 +8,65 @@ use Rattle.numerals.proofs.Reading.{Reading, reading-begin, reading_small, readi
 use Rattle.numerals.proofs.read_longer.Statement.{statement}
 use Rattle.numerals.proofs.read_longer.Tie as tie
 
-abbrev invariant-loop : tie.invariant-loop
-invariant-loop bytes at low value₀ worth₀ i₀ value worth i = Reading bytes at value worth i
+abbrev invariant-loop-i : tie.invariant-loop-i
+invariant-loop-i bytes at low value₀ worth₀ i₀ value worth i = Reading bytes at value worth i
 
-abbrev decreases-loop : tie.decreases-loop
-decreases-loop bytes at low value₀ worth₀ i₀ value worth i = length bytes - i
+abbrev decreases-loop-i : tie.decreases-loop-i
+decreases-loop-i bytes at low value₀ worth₀ i₀ value worth i = length bytes - i
 
 -- seven bits more fit
-group-fits : (c : tie.Else3 invariant-loop decreases-loop) →
-    let s = c.before.before.before.before.loop in
-    s.value + (get_or c.before.before.before.before.before.args.bytes.now s.i 0 - 128) * s.worth < 2 ^ 63
+group-fits : (c : tie.Else-worth-eq-NINTH invariant-loop-i decreases-loop-i) →
+    let s = c.loop-i in
+    s.value + (get_or c.args.bytes.now s.i 0 - 128) * s.worth < 2 ^ 63
 group-fits c =
-    let s = c.before.before.before.before.loop in
-    reading_small s.invariant _ (omega (arith, c.before.before.shared-slice-known.given s.i))
+    let s = c.loop-i in
+    reading_small s.invariant _ (omega (arith, c.shared_slice_known-1.given s.i))
 
 pub read_longer_spec : {M : Type 1} → statement M
 read_longer_spec =
     tie.close
     (tie.spec
-    invariant-loop
-    decreases-loop
-    -- add-i
+    invariant-loop-i
+    decreases-loop-i
+    -- overflow_add-i
     (λ c. search rules)
-    -- loop-holds
+    -- loop-i-init
     (λ c. reading-begin _ _ _ c.requires.0 c.requires.1 c.requires.2)
-    -- shared-slice-read-byte
+    -- bounds-bytes-i
     (λ c. search rules)
-    -- cast-byte
-    (λ c. omega (arith, c.shared-slice-known.given c.before.before.loop.i))
-    -- returns
-    (λ c. let s = c.before.before.before.before.loop in rw (reading-zero s.invariant c.before.before.before.loop-test.true (omega arith)))
-    -- mul-t13
-    (λ c. let s = c.before.before.before.before.loop in
-    omega (arith, reading_small s.invariant (get_or c.before.before.before.before.before.args.bytes.now s.i 0) (omega arith)))
-    -- add-t14
-    (λ c. let s = c.before.before.before.before.loop in
-    omega (arith, reading_small s.invariant (get_or c.before.before.before.before.before.args.bytes.now s.i 0) (omega arith)))
-    -- add-t15
+    -- overflow_cast-byte
+    (λ c. omega (arith, c.shared_slice_known-1.given c.loop-i.i))
+    -- returns-then-byte-eq0
+    (λ c. let s = c.loop-i in rw (reading-zero s.invariant c.loop-i-test.true (omega arith)))
+    -- overflow_mul-result
+    (λ c. let s = c.loop-i in
+    omega (arith, reading_small s.invariant (get_or c.args.bytes.now s.i 0) (omega arith)))
+    -- overflow_add-result
+    (λ c. let s = c.loop-i in
+    omega (arith, reading_small s.invariant (get_or c.args.bytes.now s.i 0) (omega arith)))
+    -- overflow_add-result-then-byte-lt128
     (λ c. search rules)
-    -- returns-2
+    -- returns-then-byte-lt128
     (λ c.
-    let s = c.before.before.before.before.loop in
-    rw (reading-last s.invariant c.before.before.before.loop-test.true (omega arith) c.before.if1.true, ← add_assoc, ← s.invariant.place))
-    -- returns-3
-    (λ c. let s = c.before.before.before.before.loop in
-    rw (reading-tenth s.invariant c.before.before.before.loop-test.true c.before.if1.false (omega arith)))
-    -- mul-value
+    let s = c.loop-i in
+    rw (reading-last s.invariant c.loop-i-test.true (omega arith) c.if-byte-lt128.true, ← add_assoc, ← s.invariant.place))
+    -- returns-then-worth-eq-NINTH
+    (λ c. let s = c.loop-i in
+    rw (reading-tenth s.invariant c.loop-i-test.true c.if-byte-lt128.false (omega arith)))
+    -- overflow_mul-value
     (λ c. omega (arith, group-fits c))
-    -- add-value
+    -- overflow_add-value
     (λ c. omega (arith, group-fits c))
-    -- mul-worth
+    -- overflow_mul-worth
     (λ c. omega arith)
-    -- add-i-2
+    -- overflow_add-i-in-loop-i
     (λ c. search rules)
-    -- loop-less
+    -- loop-i-smaller
     (λ c. search rules)
-    -- loop-again
+    -- loop-i-preserved
     (λ c.
-    let s = c.before.before.before.before.loop in
-    reading-next s.invariant c.before.before.before.loop-test.true c.before.if1.false
-    (omega (arith, c.before.before.shared-slice-known.given s.i)) (omega arith))
-    -- returns-4
-    (λ c. rw (reading-cut c.before.loop.invariant c.loop-test.false)))
+    let s = c.loop-i in
+    reading-next s.invariant c.loop-i-test.true c.if-byte-lt128.false
+    (omega (arith, c.shared_slice_known-1.given s.i)) (omega arith))
+    -- returns
+    (λ c. rw (reading-cut c.loop-i.invariant c.loop-i-test.false)))

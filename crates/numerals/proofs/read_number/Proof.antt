@@ -14,20 +14,20 @@ unfolding read_sevens
 read_number_spec =
     tie.close
     (tie.spec
-    -- returns
-    (λ c. rw (drop_of_length-le c.before.before.args.bytes.now c.if1.true))
-    -- shared-slice-read-first
+    -- returns-then-bytes-at
+    (λ c. rw (drop_of_length-le c.args.bytes.now c.if-bytes-at.true))
+    -- bounds-bytes-at
     (λ c. search rules)
-    -- cast-first
-    (λ c. omega (arith, c.shared-slice-known2.given c.before.before.before.args.at))
-    -- add-t8
+    -- overflow_cast-first
+    (λ c. omega (arith, c.shared_slice_known-2-1.given c.args.at))
+    -- overflow_add-result
     (λ c. search rules)
-    -- returns-2
+    -- returns-then-first-lt128
     (λ c.
-    let at = c.before.before.before.before.args.at in
-    let bytes = c.before.before.before.before.args.bytes.now in
-    rw (drop-cons bytes at 0 c.before.before.if1.false, read-last 8 (get_or bytes at 0) (drop (suc at) bytes) c.if2.true))
-    -- read-longer-requires
-    (λ c κs. omega (arith, c.before.shared-slice-known2.given c.before.before.before.before.args.at))
-    -- returns-3
+    let at = c.args.at in
+    let bytes = c.args.bytes.now in
+    rw (drop-cons bytes at 0 c.if-bytes-at.false, read-last 8 (get_or bytes at 0) (drop (suc at) bytes) c.if-first-lt128.true))
+    -- read_longer-requires
+    (λ c κs. omega (arith, c.shared_slice_known-2-1.given c.args.at))
+    -- returns
     (λ c. search rules))

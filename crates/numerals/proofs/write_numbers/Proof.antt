@@ -12,40 +12,40 @@ use Rattle.code.proofs.Records.{below_at, numerals-next, length-next, numerals-p
 use Rattle.numerals.proofs.write_numbers.Statement.{statement}
 use Rattle.numerals.proofs.write_numbers.Tie as tie
 
-abbrev invariant-loop : tie.invariant-loop
-invariant-loop out₀ at numbers place₀ i₀ out place i = (i ≤ length numbers) × Put out₀ out at (numerals_of (take i numbers)) place
+abbrev invariant-loop-i : tie.invariant-loop-i
+invariant-loop-i out₀ at numbers place₀ i₀ out place i = (i ≤ length numbers) × Put out₀ out at (numerals_of (take i numbers)) place
 
-abbrev decreases-loop : tie.decreases-loop
-decreases-loop out₀ at numbers place₀ i₀ out place i = length numbers - i
+abbrev decreases-loop-i : tie.decreases-loop-i
+decreases-loop-i out₀ at numbers place₀ i₀ out place i = length numbers - i
 
 pub write_numbers_spec : {M : Type 1} → statement M
 unfolding numerals_of
 write_numbers_spec =
     tie.close
     (tie.spec
-    invariant-loop
-    decreases-loop
+    invariant-loop-i
+    decreases-loop-i
     (λ c. search rules)
     (λ c. search rules)
     (λ c. search rules)
-    -- write-number-requires
+    -- write_number-place-requires
     (λ c κs.
-    let xs = c.before.before.before.before.before.before.args.numbers.now in
-    let l = c.before.before.before.loop in
-    let t = c.before.before.loop-test.true in (
-      below_at (2 ^ 63) xs l.i c.before.before.before.before.before.before.requires.0 t,
+    let xs = c.args.numbers.now in
+    let l = c.loop-i in
+    let t = c.loop-i-test.true in (
+      below_at (2 ^ 63) xs l.i c.requires.0 t,
       omega (arith, length-next xs l.i t, numerals-part xs (l.i + 1), put-length l.invariant.1),
     ))
     (λ c. search rules)
     (λ c. search rules)
-    -- loop-again
+    -- loop-i-preserved
     (λ c.
-    let s = c.before.before.before.before.before.before in
-    let n = numerals-next s.before.before.before.args.numbers.now s.loop.i c.before.before.before.before.before.loop-test.true in
-    (omega arith, rw n (put_then s.loop.invariant.1 c.before.before.write-number.ensures)))
-    -- same-length
-    (λ c. put-length c.before.loop.invariant.1)
+    let s = c in
+    let n = numerals-next s.args.numbers.now s.loop-i.i c.loop-i-test.true in
+    (omega arith, rw n (put_then s.loop-i.invariant.1 c.write_number-place.ensures)))
+    -- shape_of-out
+    (λ c. put-length c.loop-i.invariant.1)
     -- returns
     (λ c.
-    let i : c.before.loop.i ≡ length c.before.before.before.before.args.numbers.now = omega arith in
-    rw (i, take-length) at c.before.loop.invariant.1))
+    let i : c.loop-i.i ≡ length c.args.numbers.now = omega arith in
+    rw (i, take-length) at c.loop-i.invariant.1))

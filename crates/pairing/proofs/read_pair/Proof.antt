@@ -12,15 +12,15 @@ read_pair_spec =
     (λ c. pair-18 c.args.p _ _ c.if-p.true)
     -- array-write-v
     (λ c. search rules)
-    -- first-outline-requires
+    -- first_outline-outline-requires
     (λ c κs. search rules)
-    -- lay-into-requires
+    -- lay_into-refusal-requires
     (λ c κs. search rules)
-    -- read-by-requires
+    -- read_by-reading-requires
     (λ c κs. search rules)
-    -- enum-known-reading
+    -- enum_known-reading
     (λ c. search rules)
-    -- add-second-requires
+    -- add_second-requires
     (λ c κs.
     let d = c in
     let r = d in

@@ -17,11 +17,11 @@ fits_spec =
     (λ c. search rules)
     (λ c. search rules)
     (λ c. search rules)
-    -- returns
+    -- returns-then-head-count
     (λ c cells e.
-    let a = c.before.before.args in
+    let a = c.args in
     let head = a.head.now in
     sym (le-leb (length (record_of head cells)) a.room (omega (arith, record-size head cells, numerals-few head, sevens-few 9 (length cells)))))
     (λ c κs. search rules)
-    -- returns-2
-    (λ c cells e. rw (c.record-length.ensures cells e)))
+    -- returns
+    (λ c cells e. rw (c.record_length.ensures cells e)))

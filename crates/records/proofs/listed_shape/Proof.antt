@@ -12,14 +12,14 @@ listed_shape_spec =
     tie.close
     (tie.spec
     (λ c κs. search rules)
-    -- returns
-    (λ c. c.no-layout.ensures ∙ none-listed _ _ _ (omega arith))
+    -- returns-then-places-number
+    (λ c. c.no_layout.ensures ∙ none-listed _ _ _ (omega arith))
     (λ c. search rules)
     (λ c. search rules)
-    -- cast-shape-at
-    (λ c. omega (arith, c.shared-slice-known3.given c.before.before.before.before.args.number))
+    -- overflow_cast-places
+    (λ c. omega (arith, c.shared_slice_known-3-1.given c.args.number))
     (λ c κs. search rules)
-    -- returns-2
+    -- returns
     (λ c.
-    let a = c.before.before.before.before.before.args in
+    let a = c.args in
     c.shape_at.ensures ∙ ap listed_shape (sym (layouts-each a.dump.now a.places.now a.number (omega arith)))))

@@ -13,31 +13,31 @@ pub part_spec : {M : Type 1} → statement M
 part_spec =
     tie.close
     (tie.spec
-    -- slice-aggregate-result
+    -- slice_bounds-result-end
+    (λ c. search rules)
+    -- returns-then-dump-start
+    (λ c. let a = c.args in rw (drop_of_length-le a.dump.now c.if-dump-start.true, take-nil a.count))
+    -- overflow_sub-dump
+    (λ c. search rules)
+    -- overflow_add-result
+    (λ c. search rules)
+    -- slice_bounds-result-count
+    (λ c. search rules)
+    -- slice_bounds-result-start
+    (λ c. search rules)
+    -- slice_bounds-result-end-then-count-dump
+    (λ c. search rules)
+    -- returns-then-count-dump
+    (λ c. let a = c.args in rw add-sub_cancel_left)
+    -- slice_bounds-result-count-2
+    (λ c. search rules)
+    -- slice_bounds-result-start-2
+    (λ c. search rules)
+    -- slice_bounds-result-end-2
     (λ c. search rules)
     -- returns
-    (λ c. let a = c.before.before.args in rw (drop_of_length-le a.dump.now c.before.if1.true, take-nil a.count))
-    -- sub-if2
-    (λ c. search rules)
-    -- add-result
-    (λ c. search rules)
-    -- sub-result
-    (λ c. search rules)
-    -- part-result-start
-    (λ c. search rules)
-    -- part-result-end
-    (λ c. search rules)
-    -- returns-2
-    (λ c. let a = c.before.before.before.args in rw add-sub_cancel_left)
-    -- sub-result-2
-    (λ c. search rules)
-    -- part-result-start-2
-    (λ c. search rules)
-    -- part-result-end-2
-    (λ c. search rules)
-    -- returns-3
     (λ c.
-    let a = c.before.before.before.args in
+    let a = c.args in
     let rest = drop a.start a.dump.now in
     let long : length rest ≡ length a.dump.now - a.start = length-drop a.start a.dump.now in
     rw (take_all a.count rest (omega arith), take_all (length a.dump.now - a.start) rest (omega arith))))

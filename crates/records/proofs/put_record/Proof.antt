@@ -10,26 +10,26 @@ pub put_record_spec : {M : Type 1} → statement M
 put_record_spec =
     tie.close
     (tie.spec
-    -- write-numbers-requires
+    -- write_numbers-behind-requires
     (λ c κs.
     let s = c.before.before.before.before in
     (s.requires.0.0, omega (arith, record-size s.args.head.now s.args.cells.now)))
-    -- write-number-requires
+    -- write_number-start-requires
     (λ c κs.
-    let w = c.before.before.before.write-numbers.ensures in
+    let w = c.write_numbers-behind.ensures in
     let s = c.before.before.before.before.before.before.before.before in
     (s.requires.0.1, omega (arith, record-size s.args.head.now s.args.cells.now, w.ends, put-length w)))
-    -- put-bytes-requires
+    -- put_bytes-requires
     (λ c κs.
-    let n = c.before.before.before.write-number.ensures in
-    let w = c.before.before.before.before.before.before.before.write-numbers.ensures in
+    let n = c.write_number-start.ensures in
+    let w = c.write_numbers-behind.ensures in
     let s = c.before.before.before.before.before.before.before.before.before.before.before.before in
     omega (arith, record-size s.args.head.now s.args.cells.now, w.ends, put-length w, n.ends, put-length n))
     (λ c. search rules)
     -- returns
     (λ c.
-    let b = c.before.before.put-bytes.ensures in
-    let n = c.before.before.before.before.before.before.write-number.ensures in
-    let w = c.before.before.before.before.before.before.before.before.before.before.write-numbers.ensures in
+    let b = c.put_bytes.ensures in
+    let n = c.write_number-start.ensures in
+    let w = c.write_numbers-behind.ensures in
     let s = c.before.before.before.before.before.before.before.before.before.before.before.before.before.before.before in
     rw (record-parts s.args.head.now s.args.cells.now) (put_then (put_then w n) b)))

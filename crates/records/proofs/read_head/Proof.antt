@@ -13,7 +13,7 @@ read_head_spec =
     (λ c κs. search rules)
     (λ c. search rules)
     (λ c κs. search rules)
-    -- returns
-    (λ c. rw c.before.enum_told.given.1 c.read-own-head.ensures)
-    -- returns-2
-    (λ c. rw c.before.enum-told2.given.1 c.read-listed-head.ensures))
+    -- returns-in-Old
+    (λ c. rw c.in-Old.is c.read_own_head.ensures)
+    -- returns-in-New
+    (λ c. rw c.in-New.is c.read_listed_head.ensures))

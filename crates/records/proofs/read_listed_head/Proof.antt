@@ -9,8 +9,8 @@ use Rattle.records.proofs.read_listed_head.Statement.{statement}
 use Rattle.records.proofs.read_listed_head.Tie as tie
 
 -- the layouts that are kept
-abbrev source_of : tie.After-numbers → Source
-source_of c = let a = c.before.before.before.args in listed_layouts (layouts_at a.dump.now a.places.now)
+abbrev source_of : tie.After-numbers-1 → Source
+source_of c = let a = c.args in listed_layouts (layouts_at a.dump.now a.places.now)
 
 pub read_listed_head_spec : {M : Type 1} → statement M
 read_listed_head_spec =
@@ -20,26 +20,26 @@ read_listed_head_spec =
     (λ c κs. search rules)
     (λ c. search rules)
     (λ c. search rules)
+    -- returns-in_default
+    (λ c. let n = c.before.before in head-cut (source_of n.before) _ _ _ n.read_numbers.ensures c.in_default.is)
+    (λ c. search rules)
+    -- returns-then-places-layout
+    (λ c.
+    let n = c.before.before.before in
+    head-off (source_of n.before) _ _ _ n.read_numbers.ensures c.in-Read.is (off_list_lem _ _ _ (omega arith)))
+    (λ c. search rules)
+    -- overflow_sub-dump
+    (λ c.
+    let n = c.before.before.before in
+    omega (arith, head-within (source_of n.before) _ _ _ n.read_numbers.ensures c.in-Read.is))
+    -- returns-then-dump-end
+    (λ c.
+    let n = c.before.before.before.before in
+    head-short (source_of n.before) _ _ _ n.read_numbers.ensures c.in-Read.is (on_list _ _ _ (omega arith)) c.if-dump-end.true)
+    (λ c. search rules)
     -- returns
-    (λ c. let n = c.before.before.before in head-cut (source_of n.before) _ _ _ n.read-numbers.ensures c.enum_told.given.1)
-    (λ c. search rules)
-    -- returns-2
     (λ c.
-    let n = c.before.before.before.before.before in
-    head-off (source_of n.before) _ _ _ n.read-numbers.ensures c.before.before.end.given.1 (off_list_lem _ _ _ (omega arith)))
-    (λ c. search rules)
-    -- sub-if2
-    (λ c.
-    let n = c.before.before.before.before.before in
-    omega (arith, head-within (source_of n.before) _ _ _ n.read-numbers.ensures c.before.before.end.given.1))
-    -- returns-3
-    (λ c.
-    let n = c.before.before.before.before.before.before in
-    head-short (source_of n.before) _ _ _ n.read-numbers.ensures c.before.before.before.end.given.1 (on_list _ _ _ (omega arith)) c.if2.true)
-    (λ c. search rules)
-    -- returns-4
-    (λ c.
-    let n = c.before.before.before.before.before.before in
-    let xs = n.read-numbers.new.1.1.0 in
-    let whole = head-whole (source_of n.before) _ _ _ n.read-numbers.ensures c.before.before.before.end.given.1 in
-    listed-record _ xs _ ∙ whole (on_list _ _ _ (omega arith)) c.if2.false))
+    let n = c.before.before.before.before in
+    let xs = n.read_numbers.new.numbers in
+    let whole = head-whole (source_of n.before) _ _ _ n.read_numbers.ensures c.in-Read.is in
+    listed-record _ xs _ ∙ whole (on_list _ _ _ (omega arith)) c.if-dump-end.false))

@@ -17,16 +17,16 @@ read_own_head_spec =
     (λ c κs. search rules)
     (λ c. search rules)
     (λ c. search rules)
+    -- returns-in_default
+    (λ c. head-cut own_layouts _ _ _ c.read_numbers.ensures c.in_default.is)
+    (λ c. search rules)
+    -- overflow_sub-dump
+    (λ c. omega (arith, head-within own_layouts _ _ _ c.read_numbers.ensures c.in-Read.is))
+    -- returns-then-dump-end
+    (λ c. head-short own_layouts _ _ _ c.read_numbers.ensures c.in-Read.is refl c.if-dump-end.true)
+    (λ c. search rules)
+    (λ c. search rules)
+    (λ c. search rules)
+    (λ c. search rules)
     -- returns
-    (λ c. head-cut own_layouts _ _ _ c.before.before.before.read-numbers.ensures c.enum_told.given.1)
-    (λ c. search rules)
-    -- sub-if1
-    (λ c. omega (arith, head-within own_layouts _ _ _ c.before.before.before.before.read-numbers.ensures c.before.end.given.1))
-    -- returns-2
-    (λ c. head-short own_layouts _ _ _ c.before.before.before.before.before.read-numbers.ensures c.before.before.end.given.1 refl c.if1.true)
-    (λ c. search rules)
-    (λ c. search rules)
-    (λ c. search rules)
-    (λ c. search rules)
-    -- returns-3
-    (λ c. head-whole own_layouts _ _ _ c.before.before.before.before.before.read-numbers.ensures c.before.before.end.given.1 refl c.if1.false))
+    (λ c. head-whole own_layouts _ _ _ c.read_numbers.ensures c.in-Read.is refl c.if-dump-end.false))

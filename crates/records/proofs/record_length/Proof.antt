@@ -15,11 +15,11 @@ record_length_spec =
     (tie.spec
     (λ c κs. search rules)
     (λ c κs. search rules)
-    -- add-result
-    (λ c. let a = c.before.before.before.args in omega (arith, numerals-few a.head.now, sevens-few 9 a.count))
-    -- add-result-2
-    (λ c. let a = c.before.before.before.args in omega (arith, numerals-few a.head.now, sevens-few 9 a.count))
+    -- overflow_add-result
+    (λ c. let a = c.args in omega (arith, numerals-few a.head.now, sevens-few 9 a.count))
+    -- overflow_add-result-2
+    (λ c. let a = c.args in omega (arith, numerals-few a.head.now, sevens-few 9 a.count))
     -- returns
     (λ c cells e.
-    let a = c.before.before.before.args in
+    let a = c.args in
     omega (arith, record-size a.head.now cells, ap (λ n. length (sevens 9 n)) e)))

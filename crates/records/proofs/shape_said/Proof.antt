@@ -14,7 +14,7 @@ shape_said_spec =
     (λ c κs. search rules)
     (λ c. search rules)
     (λ c κs. search rules)
-    -- returns
-    (λ c. rw c.before.enum_told.given.1 c.own-shape.ensures)
-    -- returns-2
-    (λ c. rw c.before.enum-told2.given.1 c.listed-shape.ensures))
+    -- returns-in-Old
+    (λ c. rw c.in-Old.is c.own_shape.ensures)
+    -- returns-in-New
+    (λ c. rw c.in-New.is c.listed_shape.ensures))

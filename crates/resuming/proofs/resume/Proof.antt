@@ -11,9 +11,9 @@ pub resume_spec : {M : Type 1} → statement M
 resume_spec =
     tie.close
     (tie.spec
-    -- outline-of-requires
+    -- outline_of-f-requires
     (λ c κs. search rules)
-    -- outline-outside-requires
+    -- outline_outside-requires
     (λ c κs. search rules)
     -- refuse-requires
     (λ c κs. search rules)

@@ -7,17 +7,17 @@ pub take_aim_spec : {M : Type 1} → statement M
 take_aim_spec =
     tie.close
     (tie.spec
-    -- enum-told
+    -- enum_told-1
     (λ c. search rules)
-    -- enum-told-2
+    -- enum_told-in-Number
     (λ c. search rules)
-    -- enum-known-found
+    -- enum_known-found
     (λ c. search rules)
-    -- aim-behind-requires
+    -- aim_behind-requires
     (λ c κs. search rules)
-    -- enum-known-found-2
+    -- enum_known-found-in-Beyond-1
     (λ c. search rules)
-    -- aim-behind-requires-2
+    -- aim_behind-requires-in-Beyond
     (λ c κs. search rules)
     -- returns-in-Blank
     (λ c. search rules)

@@ -10,101 +10,83 @@ use Rattle.walking.proofs.Rows.{row-some, row_next, Walking, walking-begin, walk
 use Rattle.walking.proofs.fill_rows.Statement.{statement}
 use Rattle.walking.proofs.fill_rows.Tie as tie
 
-abbrev invariant-loop : tie.invariant-loop
-invariant-loop dump kind places at rows₀ width v₀ h₀ kept₀ next₀ done₀ place₀ rows v h kept next done place =
+abbrev invariant-loop-rows : tie.invariant-loop-rows
+invariant-loop-rows dump kind places at rows₀ width v₀ h₀ kept₀ next₀ done₀ place₀ rows v h kept next done place =
     Keeps (source_of kind dump places) kept v h × Walking kind dump at rows₀ rows next done place
 
-abbrev decreases-loop : tie.decreases-loop
-decreases-loop dump kind places at rows₀ width v₀ h₀ kept₀ next₀ done₀ place₀ rows v h kept next done place = length rows₀ - place
+abbrev decreases-loop-rows : tie.decreases-loop-rows
+decreases-loop-rows dump kind places at rows₀ width v₀ h₀ kept₀ next₀ done₀ place₀ rows v h kept next done place = length rows₀ - place
 
 -- a row more
-again : tie.Need-loop-preserved invariant-loop decreases-loop
+again : tie.Need-loop-rows-preserved invariant-loop-rows decreases-loop-rows
 again c =
-    let m = c.before.before.before.before.before in
-    let s = m.before.before.before.before.before in
-    let l = s.before.before.before.before in
-    let w = l.before.before in
-    let width = w.row-length.ensures in
-    let row = rw width at c.before.before.before.put-row.ensures in
-    let put = rw m.make-row.ensures at row in
-    let ready = w.before.before.before.before.requires in
-    let told = m.before.before.step.given.1 in
-    (s.step_kept.ensures.1, walking-next l.loop.invariant.1 ready (omega arith) s.step_kept.ensures.0 told put)
+    let width = c.row_length-width.ensures in
+    let row = rw width at c.put_row-place.ensures in
+    let put = rw c.make_row-row.ensures at row in
+    let ready = c.requires in
+    let told = c.in-Record.is in
+    (c.step_kept-s.ensures.1, walking-next c.loop-rows.invariant.1 ready (omega arith) c.step_kept-s.ensures.0 told put)
 
 pub fill_rows_spec : {M : Type 1} → statement M
 fill_rows_spec =
     tie.close
     (tie.spec
-    invariant-loop
-    decreases-loop
-    -- row-length-requires
+    invariant-loop-rows
+    decreases-loop-rows
+    -- row_length-width-requires
     (λ c κs. search rules)
-    -- keep-none-requires
+    -- keep_none-kept-requires
     (λ c κs. search rules)
-    -- loop-holds
-    (λ c. let s = c.before.before.before.before.before in (c.keep-none.ensures _ (places-few s.args.kind _ _ (omega arith)), walking-begin _ _ _ _))
-    -- sub-loop
+    -- loop-rows-init
+    (λ c. (c.keep_none-kept.ensures _ (places-few c.args.kind _ _ (omega arith)), walking-begin _ _ _ _))
+    -- overflow_sub-rows
     (λ c. search rules)
-    -- step-kept-requires
-    (λ c κs. let l = c.before.before.before in (l.before.before.before.before.before.before.requires, l.loop.invariant.0))
-    -- enum-known-step
+    -- step_kept-s-requires
+    (λ c κs. (c.requires, c.loop-rows.invariant.0))
+    -- enum_known-step
     (λ c. search rules)
-    -- make-row-requires
+    -- make_row-row-requires
     (λ c κs. search rules)
-    -- put-row-requires
+    -- put_row-place-requires
     (λ c κs.
-    let i = c.before.before.before.before.before.before.before.before.before in
-    let l = i.before in
-    let w = l.before.before in
-    let most = (row-some w.before.before.before.before.args.kind).1 in
-    (omega (arith, w.row-length.ensures), omega (arith, i.loop-test.true, l.loop.invariant.1.same, l.loop.invariant.1.room)))
-    -- add-next
+    let most = (row-some c.args.kind).1 in
+    (omega (arith, c.row_length-width.ensures), omega (arith, c.loop-rows-test.true, c.loop-rows.invariant.1.same, c.loop-rows.invariant.1.room)))
+    -- overflow_add-next
     (λ c.
-    let s = c.before.before.before.before.before.before.before.before.before.before in
-    omega (arith, (record-further _ _ _ s.step_kept.ensures.0 c.before.before.before.before.before.before.before.step.given.1).1))
-    -- add-done
+    omega (arith, (record-further _ _ _ c.step_kept-s.ensures.0 c.in-Record.is).1))
+    -- overflow_add-done
     (λ c.
-    let l = c.before.before.before.before.before.before.before.before.before.before.before.before.before.before in
-    omega (arith, l.before.before.before.before.before.before.well-formed, walking-done l.loop.invariant.1))
-    -- loop-less
+    omega (arith, c.well_formed, walking-done c.loop-rows.invariant.1))
+    -- loop-rows-smaller
     (λ c.
-    let l = c.before.before.before.before.before.before.before.before.before.before.before.before.before.before in
     let a = (again c).1 in
-    omega (arith, l.loop.invariant.1.placed, a.placed, a.room, row_next l.before.before.before.before.before.before.args.kind l.loop.done))
-    -- loop-again
+    omega (arith, c.loop-rows.invariant.1.placed, a.placed, a.room, row_next c.args.kind c.loop-rows.done))
+    -- loop-rows-preserved
     again
-    -- enum_told
+    -- enum_told-1
     (λ c. search rules)
-    -- pause-walk-requires
+    -- pause_walk-requires
     (λ c κs. search rules)
-    -- same-length
-    (λ c. c.before.before.before.before.before.before.before.before.loop.invariant.1.same)
+    -- shape_of-rows-in-End
+    (λ c. c.loop-rows.invariant.1.same)
+    -- returns-in-End
+    (λ c.
+    let ready = c.requires in
+    walking-end c.loop-rows.invariant.1 ready (omega arith) c.step_kept-s.ensures.0 c.in-End.is c.pause_walk.ensures)
+    -- enum_known-step-in-Stop-1
+    (λ c. search rules)
+    -- halt_walk-requires
+    (λ c κs. search rules)
+    -- shape_of-rows-in-Stop
+    (λ c. c.loop-rows.invariant.1.same)
+    -- returns-in-Stop
+    (λ c.
+    let ready = c.requires in
+    walking-stop c.loop-rows.invariant.1 ready (omega arith) c.step_kept-s.ensures.0 c.in-Stop.is c.halt_walk.ensures)
+    -- pause_walk-requires-2
+    (λ c κs. search rules)
+    -- shape_of-rows
+    (λ c. c.loop-rows.invariant.1.same)
     -- returns
     (λ c.
-    let s = c.before.before.before.before in
-    let l = s.before.before.before.before in
-    let w = l.before.before in
-    let ready = w.before.before.before.before.requires in
-    walking-end l.loop.invariant.1 ready (omega arith) s.step_kept.ensures.0 c.before.enum_told.given.1 c.pause-walk.ensures)
-    -- enum-known-step-2
-    (λ c. search rules)
-    -- halt-walk-requires
-    (λ c κs. search rules)
-    -- same-length-2
-    (λ c. c.before.before.before.before.before.before.before.before.before.loop.invariant.1.same)
-    -- returns-2
-    (λ c.
-    let s = c.before.before.before.before.before in
-    let l = s.before.before.before.before in
-    let w = l.before.before in
-    let ready = w.before.before.before.before.requires in
-    walking-stop l.loop.invariant.1 ready (omega arith) s.step_kept.ensures.0 c.before.before.step2.given.1 c.halt-walk.ensures)
-    -- pause-walk-requires-2
-    (λ c κs. search rules)
-    -- same-length-3
-    (λ c. c.before.before.loop.invariant.1.same)
-    -- returns-3
-    (λ c.
-    let l = c.before.before in
-    let w = l.before.before in
-    walking-full l.loop.invariant.1 w.before.before.before.before.requires (omega arith) c.pause-walk2.ensures))
+    walking-full c.loop-rows.invariant.1 c.requires (omega arith) c.pause_walk-2.ensures))

@@ -7,7 +7,7 @@ pub halt_walk_spec : {M : Type 1} → statement M
 halt_walk_spec =
     tie.close
     (tie.spec
-    -- flat-halt-requires
+    -- flat_halt-told-requires
     (λ c κs. search rules)
     -- returns
-    (λ c. let told = c.flat-halt.ensures in rw (told.0, told.1)))
+    (λ c. let told = c.flat_halt-told.ensures in rw (told.0, told.1)))

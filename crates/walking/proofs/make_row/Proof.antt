@@ -9,11 +9,11 @@ unfolding row_numbers record_numbers
 make_row_spec =
     tie.close
     (tie.spec
-    -- flat-requires
+    -- flat-told-requires
     (λ c κs. search rules)
     (λ c. search rules)
     (λ c κs. search rules)
     (λ c. search rules)
     (λ c κs. search rules)
-    (λ c. rw (c.before.enum_told.given.1, ← c.before.before.before.flat.ensures) c.old_row.ensures)
-    (λ c. rw (c.before.enum-told2.given.1, ← c.before.before.before.flat.ensures, c.new_row.ensures)))
+    (λ c. rw (c.in-Old.is, ← c.flat-told.ensures) c.old_row.ensures)
+    (λ c. rw (c.in-New.is, ← c.flat-told.ensures, c.new_row.ensures)))

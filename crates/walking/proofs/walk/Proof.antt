@@ -13,27 +13,25 @@ walk_spec =
     (tie.spec
     -- open-requires
     (λ c κs. search rules)
-    -- enum-known-start
+    -- enum_known-start
     (λ c. search rules)
-    -- sub-fill-rows
+    -- slice_bounds-fill_rows-count
     (λ c. search rules)
-    -- part-fill-rows-start
+    -- slice_bounds-fill_rows-start
     (λ c. search rules)
-    -- part-fill-rows-end
-    (λ c. omega (arith, opened-few c.before.before.before.before.«open».ensures c.before.before.start.given.1))
-    -- fill-rows-requires
+    -- slice_bounds-fill_rows-end
+    (λ c. omega (arith, opened-few c.«open».ensures c.in-Records.is))
+    -- fill_rows-requires
     (λ c κs.
-    let o = c.before.before.before.before.before.before in
-    rw sub-zero (opened-ready o.«open».ensures c.before.before.before.before.start.given.1))
-    -- enum-known-halt
+    rw sub-zero (opened-ready c.«open».ensures c.in-Records.is))
+    -- enum_known-halt
     (λ c. search rules)
-    -- halt-walk-requires
+    -- halt_walk-requires
     (λ c κs. search rules)
-    -- same-length
+    -- shape_of-rows
     (λ c. search rules)
-    -- returns
-    (λ c. c.before.before.fill-rows.ensures)
-    -- returns-2
+    -- returns-in-Records
+    (λ c. c.fill_rows.ensures)
+    -- returns-in-Barred
     (λ c.
-    let o = c.before.before.before.before in
-    walk_refused _ _ _ _ c.before.before.halt.given.0.0 (opened-barred o.«open».ensures c.before.before.halt.given.1) c.halt-walk.ensures))
+    walk_refused _ _ _ _ c.in-Barred.halt (opened-barred c.«open».ensures c.in-Barred.is) c.halt_walk.ensures))

@@ -10,10 +10,10 @@ pub keep_none_spec : {M : Type 1} → statement M
 keep_none_spec =
     tie.close
     (tie.spec
-    -- say-none-requires
+    -- say_none-requires
     (λ c κs. search rules)
     -- returns
     (λ c source few. record {
       planned = record { right = zeros-refused };
-      same = none_said_lem source few ∙ ap (said_shape source) (sym c.say-none.ensures);
+      same = none_said_lem source few ∙ ap (said_shape source) (sym c.say_none.ensures);
     }))

@@ -7,11 +7,11 @@ pub renew_spec : {M : Type 1} → statement M
 renew_spec =
     tie.close
     (tie.spec
-    -- same-said-requires
+    -- same_said-requires
+    (λ c κs. search rules)
+    -- returns-then-same_said
+    (λ c. (c.same_said.ensures c.if-same_said.true, c.requires))
+    -- work_out-requires
     (λ c κs. search rules)
     -- returns
-    (λ c. (c.before.same-said.ensures c.if1.true, c.before.before.before.before.requires))
-    -- work-out-requires
-    (λ c κs. search rules)
-    -- returns-2
-    (λ c. c.work-out.ensures))
+    (λ c. c.work_out.ensures))

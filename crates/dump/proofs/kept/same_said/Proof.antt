@@ -9,11 +9,11 @@ pub same_said_spec : {M : Type 1} → statement M
 same_said_spec =
     tie.close
     (tie.spec
+    -- returns-then-a-b
+    (λ c. not_same)
+    -- returns-then-a-b-2
+    (λ c. not_same)
+    -- returns-then-a-b-3
+    (λ c. not_same)
     -- returns
-    (λ c. not_same)
-    -- returns-2
-    (λ c. not_same)
-    -- returns-3
-    (λ c. not_same)
-    -- returns-4
     (λ c e. same-fields (eqb-true _ _ e) (omega arith) (omega arith) (omega arith)))

@@ -13,5 +13,4 @@ work_out_spec =
     (λ c κs. search rules)
     -- returns
     (λ c.
-    let framing = c.before.before.before.before.before in
-    (refl, record { planned = record { right = c.lay-into.ensures }; same = framing.outline-of.ensures ∙ framing.before.shape-said.ensures })))
+    (refl, record { planned = record { right = c.lay_into-refusal.ensures }; same = c.outline_of-outline.ensures ∙ c.shape_said-shape.ensures })))

@@ -6,26 +6,22 @@ use Rattle.records.proofs.Laws.{layouts-many}
 use Rattle.dump.proofs.Naming.{listed-none, listed-some}
 use Rattle.dump.proofs.listed.listed_in.Statement.{statement}
 use Rattle.dump.proofs.listed.listed_in.Tie as tie
-use Rattle.dump.proofs.listed.listed_in.Reads as reads
-use Rattle.dump.proofs.listed.listed_in.Lts as lts
-use Rattle.dump.proofs.listed.refuse.Reads as refuse-reads
-use Rattle.records.proofs.listed_shape.Reads as listed-shape-reads
 
 refuse-requires : tie.Need-refuse-requires
 refuse-requires c κs = search rules
 
-returns : tie.Need-returns
+returns : tie.Need-returns-then-places-number
 returns c =
-    let a = c.before.before.before.before.args in
+    let a = c.args in
     c.refuse.ensures ∙ listed-none _ _ (omega (arith, layouts-many a.dump.now a.places.now))
 
-listed-shape-requires : tie.Need-listed-shape-requires
+listed-shape-requires : tie.Need-listed_shape-shape-requires
 listed-shape-requires c κs = search rules
 
-returns-2 : tie.Need-returns-2
+returns-2 : tie.Need-returns
 returns-2 c =
-    let a = c.before.before.before.before.args in
-    listed-some _ _ _ (omega (arith, layouts-many a.dump.now a.places.now)) c.listed-shape.ensures
+    let a = c.args in
+    listed-some _ _ _ (omega (arith, layouts-many a.dump.now a.places.now)) c.listed_shape-shape.ensures
 
 pub listed_in_spec : {M : Type 1} → statement M
 listed_in_spec = tie.close (tie.spec refuse-requires returns listed-shape-requires returns-2)

@@ -18,18 +18,16 @@ listed_shape_spec =
     (λ c. search rules)
     (λ c. search rules)
     (λ c. search rules)
-    -- part-listed-in-end
-    (λ c. omega (arith, opened-few c.before.before.before.before.«open».ensures c.before.before.layouts.given.1))
+    -- slice_bounds-listed_in-end
+    (λ c. omega (arith, opened-few c.«open».ensures c.in-Records.is))
     (λ c κs. search rules)
     (λ c. search rules)
     (λ c κs. search rules)
     (λ c κs. search rules)
-    -- returns
+    -- returns-in-Records
     (λ c.
-    let entered = c.before.before.before.before in
-    c.Listed-in.ensures ∙ rw sub-zero (listed-opened _ entered.before.before.«open».ensures entered.layouts.given.1))
-    -- returns-2
+    c.listed_in.ensures ∙ rw sub-zero (listed-opened _ c.«open».ensures c.in-Records.is))
+    -- returns-in-Barred
     (λ c.
-    let halted = c.before.before.before in
-    let told = ap (λ number. number ∷ replicate 20 0) c.before.flat-halt.ensures.0 in
-    c.refuse.ensures ∙ told ∙ listed-barred _ halted.before.before.«open».ensures halted.halt.given.1))
+    let told = ap (λ number. number ∷ replicate 20 0) c.flat_halt-told.ensures.0 in
+    c.refuse.ensures ∙ told ∙ listed-barred _ c.«open».ensures c.in-Barred.is))

@@ -11,5 +11,5 @@ flat_made_spec =
     (tie.spec
     (λ c. search rules)
     (λ c. search rules)
-    (λ c. rw c.before.a.given.1)
-    (λ c. rw c.before.a2.given.1))
+    (λ c. rw c.in-Stored.is)
+    (λ c. rw c.in-Refused.is))

@@ -11,5 +11,5 @@ flat_opened_spec =
     (λ c. search rules)
     (λ c. search rules)
     (λ c κs. search rules)
-    (λ c. rw c.before.a.given.1 (opened-fields _ _))
-    (λ c. let told = c.flat-halt.ensures in rw (c.before.before.a2.given.1, told.0, told.1) (opened-halted c.before.before.a2.given.0.0)))
+    (λ c. rw c.in-Records.is (opened-fields _ _))
+    (λ c. let told = c.flat_halt-told.ensures in rw (c.in-Barred.is, told.0, told.1) (opened-halted c.in-Barred.halt)))

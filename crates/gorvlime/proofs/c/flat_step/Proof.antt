@@ -14,15 +14,15 @@ flat_step_spec =
     (tie.spec
     (λ c. search rules)
     (λ c κs. search rules)
-    -- add-t10
-    (λ c. let r = c.before.before.before.before in omega (arith, rw r.a.given.1 at r.before.before.requires))
+    -- overflow_add-result
+    (λ c. omega (arith, rw c.in-Record.is at c.requires))
     (λ c. search rules)
     (λ c κs. search rules)
     (λ c. search rules)
     (λ c κs. search rules)
-    -- returns
-    (λ c. rw c.before.before.before.before.a.given.1 (found-record _ _ _ c.before.before.flat.ensures))
-    -- returns-2
-    (λ c. c.no_record.ensures ∙ rw c.before.enum_told.given.1 (found_none 0))
-    -- returns-3
-    (λ c. c.no_step.ensures ∙ rw c.before.before.a2.given.1))
+    -- returns-in-Record
+    (λ c. rw c.in-Record.is (found-record _ _ _ c.flat-o.ensures))
+    -- returns-in-End
+    (λ c. c.no_record.ensures ∙ rw c.in-End.is (found_none 0))
+    -- returns-in-Stop
+    (λ c. c.no_step.ensures ∙ rw c.in-Stop.is))

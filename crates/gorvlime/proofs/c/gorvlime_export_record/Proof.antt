@@ -12,4 +12,4 @@ gorvlime_export_record_spec =
     (λ c κs. search rules)
     (λ c κs. search rules)
     (λ c. search rules)
-    (λ c. let w = c.before.before.before.export-record.ensures in (c.flat-made.ensures ∙ ap (filled 2) w.0, w.1)))
+    (λ c. let w = c.export_record.ensures in (c.flat_made.ensures ∙ ap (filled 2) w.0, w.1)))

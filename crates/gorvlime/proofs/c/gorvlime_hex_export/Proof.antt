@@ -12,4 +12,4 @@ gorvlime_hex_export_spec =
     (λ c κs. search rules)
     (λ c κs. search rules)
     (λ c. search rules)
-    (λ c. let w = c.before.before.before.hex-export.ensures in (c.flat-made.ensures ∙ ap (filled 2) w.0, w.1)))
+    (λ c. let w = c.hex_export.ensures in (c.flat_made.ensures ∙ ap (filled 2) w.0, w.1)))

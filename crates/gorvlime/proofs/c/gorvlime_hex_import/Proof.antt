@@ -12,4 +12,4 @@ gorvlime_hex_import_spec =
     (λ c κs. search rules)
     (λ c κs. search rules)
     (λ c. search rules)
-    (λ c. let w = c.before.before.before.hex-import.ensures in (c.flat-made.ensures ∙ ap (filled 2) w.0, w.1)))
+    (λ c. let w = c.hex_import.ensures in (c.flat_made.ensures ∙ ap (filled 2) w.0, w.1)))

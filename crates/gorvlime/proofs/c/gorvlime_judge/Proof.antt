@@ -11,4 +11,4 @@ gorvlime_judge_spec =
     (tie.spec
     (λ c κs. search rules)
     (λ c κs. search rules)
-    (λ c. c.flat.ensures ∙ ap judge_fields c.before.judge.ensures.0))
+    (λ c. c.flat.ensures ∙ ap judge_fields c.judge.ensures.0))

@@ -12,4 +12,4 @@ gorvlime_move_to_old_spec =
     (λ c κs. search rules)
     (λ c κs. search rules)
     (λ c. search rules)
-    (λ c. let w = c.before.before.before.move-to-old.ensures in (c.flat-moved.ensures ∙ ap (offset_fields 3) w.0, w.1)))
+    (λ c. let w = c.move_to_old.ensures in (c.flat_moved.ensures ∙ ap (offset_fields 3) w.0, w.1)))

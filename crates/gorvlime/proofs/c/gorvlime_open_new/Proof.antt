@@ -11,4 +11,4 @@ gorvlime_open_new_spec =
     (tie.spec
     (λ c κs. search rules)
     (λ c κs. search rules)
-    (λ c. c.flat-opened.ensures ∙ ap (offset_fields 4) c.before.open-new.ensures))
+    (λ c. c.flat_opened.ensures ∙ ap (offset_fields 4) c.open_new.ensures))

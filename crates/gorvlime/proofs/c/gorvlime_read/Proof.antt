@@ -11,4 +11,4 @@ gorvlime_read_spec =
     (tie.spec
     (λ c κs. search rules)
     (λ c κs. search rules)
-    (λ c. c.flat.ensures ∙ ap read_fields c.before.read.ensures))
+    (λ c. c.flat.ensures ∙ ap read_fields c.read.ensures))

@@ -11,4 +11,4 @@ gorvlime_read_pair_spec =
     (tie.spec
     (λ c κs. search rules)
     (λ c κs. search rules)
-    (λ c. c.flat-reading.ensures ∙ ap pair_read_fields c.before.read-pair.ensures))
+    (λ c. c.flat_reading.ensures ∙ ap pair_read_fields c.read_pair.ensures))

@@ -18,5 +18,5 @@ gorvlime_step_spec =
     (λ c κs. rw c.step.ensures (step_fits _ _ _))
     (λ c κs. search rules)
     (λ c.
-    let fields = c.before.flat_step.ensures ∙ ap new_found_fields c.before.before.step.ensures in
-    c.without-layout.ensures ∙ ap (λ (xs : List ℕ). take 4 xs ++ drop 6 xs) fields))
+    let fields = c.flat_step.ensures ∙ ap new_found_fields c.step.ensures in
+    c.without_layout.ensures ∙ ap (λ (xs : List ℕ). take 4 xs ++ drop 6 xs) fields))

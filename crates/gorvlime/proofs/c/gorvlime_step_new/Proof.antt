@@ -11,5 +11,5 @@ gorvlime_step_new_spec =
     tie.close
     (tie.spec
     (λ c κs. search rules)
-    (λ c κs. rw c.step-new.ensures (step_fits _ _ _))
-    (λ c. c.flat_step.ensures ∙ ap new_found_fields c.before.step-new.ensures))
+    (λ c κs. rw c.step_new.ensures (step_fits _ _ _))
+    (λ c. c.flat_step.ensures ∙ ap new_found_fields c.step_new.ensures))

@@ -12,4 +12,4 @@ gorvlime_write_spec =
     (λ c κs. search rules)
     (λ c κs. search rules)
     (λ c. search rules)
-    (λ c. let w = c.before.before.before.write.ensures in (c.flat.ensures ∙ ap write_fields w.0, w.1)))
+    (λ c. let w = c.write.ensures in (c.flat.ensures ∙ ap write_fields w.0, w.1)))

@@ -13,4 +13,4 @@ gorvlime_write_pair_spec =
     (λ c κs. search rules)
     (λ c. search rules)
     (λ c. search rules)
-    (λ c. let w = c.before.before.before.before.before.write-pair.ensures in (c.flat-writing.ensures ∙ ap pair_write_fields w.0, w.1)))
+    (λ c. let w = c.write_pair.ensures in (c.flat_writing.ensures ∙ ap pair_write_fields w.0, w.1)))

@@ -9,11 +9,11 @@ pub no_step_spec : {M : Type 1} → statement M
 no_step_spec =
     tie.close
     (tie.spec
-    -- flat-halt-requires
+    -- flat_halt-told-requires
     (λ c κs. search rules)
-    -- no-record-requires
+    -- no_record-requires
     (λ c κs. search rules)
     -- returns
     (λ c.
-    let told = c.before.flat-halt.ensures in
-    c.no_record.ensures ∙ rw (told.0, told.1) (found-halted c.before.before.args.halt)))
+    let told = c.flat_halt-told.ensures in
+    c.no_record.ensures ∙ rw (told.0, told.1) (found-halted c.args.halt)))

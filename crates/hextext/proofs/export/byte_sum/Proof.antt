@@ -10,37 +10,37 @@ use Rattle.hextext.proofs.Outward.{sum-next}
 use Rattle.hextext.proofs.export.byte_sum.Statement.{statement}
 use Rattle.hextext.proofs.export.byte_sum.Tie as tie
 
-abbrev invariant-loop : tie.invariant-loop
-invariant-loop bytes sum₀ i₀ sum i = (i ≤ length bytes) × (sum ≤ 255 * i) × (sum ≡ list_sum (take i bytes))
+abbrev invariant-loop-i : tie.invariant-loop-i
+invariant-loop-i bytes sum₀ i₀ sum i = (i ≤ length bytes) × (sum ≤ 255 * i) × (sum ≡ list_sum (take i bytes))
 
-abbrev decreases-loop : tie.decreases-loop
-decreases-loop bytes sum₀ i₀ sum i = length bytes - i
+abbrev decreases-loop-i : tie.decreases-loop-i
+decreases-loop-i bytes sum₀ i₀ sum i = length bytes - i
 
 pub byte_sum_spec : {M : Type 1} → statement M
 unfolding list_sum
 byte_sum_spec =
     tie.close
     (tie.spec
-    invariant-loop
-    decreases-loop
-    -- loop-holds
+    invariant-loop-i
+    decreases-loop-i
+    -- loop-i-init
     (λ c. search rules)
-    -- shared-slice-read-sum
+    -- bounds-bytes-i
     (λ c. search rules)
-    -- cast-sum
-    (λ c. omega (arith, c.shared-slice-known.given c.before.before.loop.i))
-    -- add-sum
-    (λ c. omega (arith, c.shared-slice-known.given c.before.before.loop.i))
-    -- add-i
+    -- overflow_cast-sum
+    (λ c. omega (arith, c.shared_slice_known-1.given c.loop-i.i))
+    -- overflow_add-sum
+    (λ c. omega (arith, c.shared_slice_known-1.given c.loop-i.i))
+    -- overflow_add-i
     (λ c. search rules)
-    -- loop-less
+    -- loop-i-smaller
     (λ c. search rules)
-    -- loop-again
+    -- loop-i-preserved
     (λ c.
-    let s = c.before.before.loop in
-    let n = sum-next c.before.before.before.args.bytes.now s.i c.before.loop-test.true in
-    (omega arith, omega (arith, c.shared-slice-known.given s.i), omega (arith, n)))
+    let s = c.loop-i in
+    let n = sum-next c.args.bytes.now s.i c.loop-i-test.true in
+    (omega arith, omega (arith, c.shared_slice_known-1.given s.i), omega (arith, n)))
     -- returns
     (λ c.
-    let bytes = c.before.before.args.bytes.now in
-    (c.before.loop.invariant.2 ∙ ap list_sum (take_all c.before.loop.i bytes c.loop-test.false), omega arith)))
+    let bytes = c.args.bytes.now in
+    (c.loop-i.invariant.2 ∙ ap list_sum (take_all c.loop-i.i bytes c.loop-i-test.false), omega arith)))

@@ -10,11 +10,11 @@ unfolding hex_digit
 hex_digit_spec =
     tie.close
     (tie.spec
-    -- add-result
+    -- overflow_add-result
+    (λ c. search rules)
+    -- returns-then-x-lt10
+    (λ c. simp (lt-ltb _ _ c.if-x-lt10.true))
+    -- overflow_add-result-2
     (λ c. search rules)
     -- returns
-    (λ c. simp (lt-ltb _ _ c.if1.true))
-    -- add-result-2
-    (λ c. search rules)
-    -- returns-2
-    (λ c. simp (le-ltb _ _ c.if1.false)))
+    (λ c. simp (le-ltb _ _ c.if-x-lt10.false)))

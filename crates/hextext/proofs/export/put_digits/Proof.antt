@@ -12,21 +12,21 @@ unfolding hex_digits
 put_digits_spec =
     tie.close
     (tie.spec
-    -- hex-digit-requires
+    -- hex_digit-requires
     (λ c κs. omega arith)
-    -- slice-write-out
+    -- bounds-out-at
     (λ c. search rules)
-    -- hex-digit-requires-2
+    -- hex_digit-requires-2
     (λ c κs. omega arith)
-    -- add-out
+    -- overflow_add-out
     (λ c. search rules)
-    -- slice-write-out-2
-    (λ c. let a = c.before.before.before.args in omega (arith, length-set a.out.now a.at c.before.hex-digit.result))
-    -- add-result
+    -- bounds-out-at-2
+    (λ c. let a = c.args in omega (arith, length-set a.out.now a.at c.hex_digit.result))
+    -- overflow_add-result
     (λ c. search rules)
-    -- same-length
+    -- shape_of-out
     (λ c. search rules)
     -- returns
     (λ c.
-    let a = c.before.before.before.args in
-    record { stored = rw (add-one a.at, ← c.before.hex-digit.ensures, ← c.hex-digit2.ensures); ends = omega arith }))
+    let a = c.args in
+    record { stored = rw (add-one a.at, ← c.hex_digit.ensures, ← c.hex_digit-2.ensures); ends = omega arith }))

@@ -1,5 +1,4 @@
 -- `hextext::export::put_end` meets its contract. Assumes nothing.
-use mathlib.Core.Path.{refl}
 use native.Mathlib.Omega.{arith}
 use borrow.Author.Rules.{rules}
 use Rattle.code.specs.Lists.{ascii}
@@ -12,9 +11,9 @@ unfolding ascii end_record
 put_end_spec =
     tie.close
     (tie.spec
-    -- put-bytes-requires
+    -- put_bytes-requires
     (λ c κs. omega arith)
-    -- same-length
+    -- shape_of-out
     (λ c. search rules)
     -- returns
-    (λ c. c.before.before.put-bytes.ensures))
+    (λ c. c.put_bytes.ensures))

@@ -13,37 +13,37 @@ unfolding hex_digits
 put_line_spec =
     tie.close
     (tie.spec
-    -- cast-put-digits
+    -- overflow_cast-head
     (λ c. search rules)
-    -- cast-t14
+    -- overflow_cast-head-2
     (λ c. search rules)
-    -- cast-t16
+    -- overflow_cast-head-3
     (λ c. search rules)
-    -- slice-aggregate-byte-sum
+    -- slice_bounds-byte_sum-end
     (λ c. search rules)
-    -- byte-sum-requires
+    -- byte_sum-requires
     (λ c κs. search rules)
-    -- byte-sum-requires-2
+    -- byte_sum-requires-2
     (λ c κs. search rules)
-    -- add-sum
+    -- overflow_add-sum
     (λ c. omega arith)
-    -- put-byte-requires
+    -- put_byte-first-requires
     (λ c κs. search rules)
-    -- slice-aggregate-put-all-digits
+    -- slice_bounds-put_all_digits-end
     (λ c. search rules)
-    -- put-all-digits-requires
+    -- put_all_digits-second-requires
     (λ c κs. search rules)
-    -- put-all-digits-requires-2
+    -- put_all_digits-third-requires
     (λ c κs. omega arith)
-    -- sub-put-digits
+    -- overflow_sub-sum
     (λ c. search rules)
-    -- cast-put-digits-2
+    -- overflow_cast-sum
     (λ c. search rules)
-    -- put-digits-requires
+    -- put_digits-fourth-requires
     (λ c κs. omega arith)
-    -- put-byte-requires-2
+    -- put_byte-requires
     (λ c κs. omega arith)
-    -- same-length
+    -- shape_of-out
     (λ c. search rules)
     -- returns
     (λ c.
@@ -54,8 +54,8 @@ put_line_spec =
     let colon-put = head-put.before.before.before.before.before in
     let data-sum = colon-put.before.before in
     let head-sum = data-sum.before in
-    let a = head-sum.before.before.before.before.args in
-    let front = put_then (put_then colon-put.put_byte.ensures head-put.put-all-digits.ensures.0) data-put.put-all-digits2.ensures.0 in
-    let all = put_then (put_then front sum-put.put-digits.ensures) last.put-byte2.ensures in
-    let sum : ℕ = (256 - (head-sum.byte-sum.result + data-sum.byte-sum2.result) % 256) % 256 in
-    rw (line-splits a.address a.bytes.now sum (omega (arith, head-sum.byte-sum.ensures.0, data-sum.byte-sum2.ensures.0))) all))
+    let a = head-sum.args in
+    let front = put_then (put_then colon-put.put_byte-first.ensures head-put.put_all_digits-second.ensures.0) data-put.put_all_digits-third.ensures.0 in
+    let all = put_then (put_then front sum-put.put_digits-fourth.ensures) last.put_byte.ensures in
+    let sum : ℕ = (256 - (head-sum.byte_sum.result + data-sum.byte_sum-2.result) % 256) % 256 in
+    rw (line-splits a.address a.bytes.now sum (omega (arith, head-sum.byte_sum.ensures.0, data-sum.byte_sum-2.ensures.0))) all))

@@ -7,45 +7,45 @@ use Rattle.hextext.proofs.Outward.{Lining, lining-begin, lining-next, lining-roo
 use Rattle.hextext.proofs.export.put_lines.Statement.{statement}
 use Rattle.hextext.proofs.export.put_lines.Tie as tie
 
-abbrev invariant-loop : tie.invariant-loop
-invariant-loop out₀ bytes at₀ i₀ out at i = Lining out₀ bytes out at i
+abbrev invariant-loop-i : tie.invariant-loop-i
+invariant-loop-i out₀ bytes at₀ i₀ out at i = Lining out₀ bytes out at i
 
-abbrev decreases-loop : tie.decreases-loop
-decreases-loop out₀ bytes at₀ i₀ out at i = length bytes - i
+abbrev decreases-loop-i : tie.decreases-loop-i
+decreases-loop-i out₀ bytes at₀ i₀ out at i = length bytes - i
 
 pub put_lines_spec : {M : Type 1} → statement M
 put_lines_spec =
     tie.close
     (tie.spec
-    invariant-loop
-    decreases-loop
-    -- loop-holds
+    invariant-loop-i
+    decreases-loop-i
+    -- loop-i-init
     (λ c. lining-begin _ _)
-    -- line-stop-requires
+    -- line_stop-stop-requires
     (λ c κs. search rules)
-    -- sub-put-line
+    -- slice_bounds-put_line-count
     (λ c. search rules)
-    -- part-put-line-start
+    -- slice_bounds-put_line-start
     (λ c. search rules)
-    -- part-put-line-end
+    -- slice_bounds-put_line-end
     (λ c. search rules)
-    -- put-line-requires
+    -- put_line-at-requires
     (λ c κs.
-    let s = c.before.before.before.before.loop in
-    let bytes = c.before.before.before.before.before.before.before.args.bytes.now in
-    let l = length-take (c.before.before.line-stop.result - s.i) (drop s.i bytes) in
+    let s = c.loop-i in
+    let bytes = c.args.bytes.now in
+    let l = length-take (c.line_stop-stop.result - s.i) (drop s.i bytes) in
     let d = length-drop s.i bytes in
-    let room = lining-room s.invariant c.before.before.before.loop-test.true in
+    let room = lining-room s.invariant c.loop-i-test.true in
     let same = s.invariant.storing.same in
     (omega arith, omega arith, omega arith))
-    -- loop-less
+    -- loop-i-smaller
     (λ c. omega arith)
-    -- loop-again
+    -- loop-i-preserved
     (λ c.
     let stop = c.before.before.before.before.before in
-    let inside = stop.before in
-    lining-next inside.before.loop.invariant _ _ _ inside.loop-test.true stop.line-stop.ensures c.before.before.put-line.ensures)
-    -- same-length
-    (λ c. c.before.loop.invariant.storing.same)
+    let inside = stop in
+    lining-next inside.loop-i.invariant _ _ _ inside.loop-i-test.true stop.line_stop-stop.ensures c.put_line-at.ensures)
+    -- shape_of-out
+    (λ c. c.loop-i.invariant.storing.same)
     -- returns
-    (λ c. lining-end c.before.loop.invariant c.loop-test.false))
+    (λ c. lining-end c.loop-i.invariant c.loop-i-test.false))

@@ -11,70 +11,67 @@ use Rattle.hextext.proofs.Checking.{Checking, checking-begin, checking-wrong, ch
 use Rattle.hextext.proofs.import.check_text.Statement.{statement}
 use Rattle.hextext.proofs.import.check_text.Tie as tie
 
-abbrev invariant-loop : tie.invariant-loop
-invariant-loop text at₀ done₀ at done = Checking text at done
+abbrev invariant-loop-k : tie.invariant-loop-k
+invariant-loop-k text at₀ done₀ at done = Checking text at done
 
-abbrev decreases-loop : tie.decreases-loop
-decreases-loop text at₀ done₀ at done = length text - at
+abbrev decreases-loop-k : tie.decreases-loop-k
+decreases-loop-k text at₀ done₀ at done = length text - at
 
 -- what is told of the line
-told : (c : tie.After-test-line invariant-loop decreases-loop) → let s = c.before.before.loop in
-    TestsLine s.done (drop s.at c.before.before.before.before.args.text.now) c.test-line.result
+told : (c : tie.After-test_line invariant-loop-k decreases-loop-k) → let s = c.loop-k in
+    TestsLine s.done (drop s.at c.args.text.now) c.test_line.result
 told c =
-    let at = c.before.before.loop.at in
-    let text = c.before.before.before.before.args.text.now in
-    rw (take_all (length text - at) (drop at text) (omega (arith, length-drop at text))) at c.test-line.ensures
+    let at = c.loop-k.at in
+    let text = c.args.text.now in
+    rw (take_all (length text - at) (drop at text) (omega (arith, length-drop at text))) at c.test_line.ensures
 
-taken : (c : tie.After-known-told3 invariant-loop decreases-loop) → let tested = c.before.before.before in let s = tested.before.before.loop in
-    TestsLine s.done (drop s.at tested.before.before.before.before.args.text.now)
-    (Data c.before.count.given.0.0 c.before.count.given.0.1.0)
-taken c = subst (TestsLine _ _) c.before.count.given.1 (told c.before.before.before)
+taken : (c : tie.In-Data invariant-loop-k decreases-loop-k) → let s = c.loop-k in
+    TestsLine s.done (drop s.at c.args.text.now)
+    (Data c.in-Data.count c.in-Data.size)
+taken c = subst (TestsLine _ _) c.in-Data.is (told c.before)
 
-next : (c : tie.After-known-told3 invariant-loop decreases-loop) → let tested = c.before.before.before in let s = tested.before.before.loop in
-    Checking tested.before.before.before.before.args.text.now (s.at + c.before.count.given.0.1.0) (s.done + c.before.count.given.0.0)
-next c = checking-next c.before.before.before.before.before.loop.invariant _ _ (taken c)
+next : (c : tie.In-Data invariant-loop-k decreases-loop-k) → let s = c.loop-k in
+    Checking c.args.text.now (s.at + c.in-Data.size) (s.done + c.in-Data.count)
+next c = checking-next c.loop-k.invariant _ _ (taken c)
 
 pub check_text_spec : {M : Type 1} → statement M
 check_text_spec =
     tie.close
     (tie.spec
-    invariant-loop
-    decreases-loop
-    -- loop-holds
+    invariant-loop-k
+    decreases-loop-k
+    -- loop-k-init
     (λ c. checking-begin _)
-    -- sub-test-line
-    (λ c. omega (arith, c.loop.invariant.within))
-    -- part-test-line-start
-    (λ c. omega (arith, c.loop.invariant.within))
-    -- part-test-line-end
+    -- slice_bounds-test_line-count
+    (λ c. omega (arith, c.loop-k.invariant.within))
+    -- slice_bounds-test_line-start
+    (λ c. omega (arith, c.loop-k.invariant.within))
+    -- slice_bounds-test_line-end
     (λ c. search rules)
-    -- test-line-requires
-    (λ c κs. let s = c.before.loop.invariant in omega (arith, s.many, s.held.1))
-    -- enum-known-k
+    -- test_line-requires
+    (λ c κs. let s = c.loop-k.invariant in omega (arith, s.many, s.held.1))
+    -- enum_known-k
     (λ c. search rules)
-    -- returns
+    -- returns-in-Faulty
     (λ c.
-    let tested = c.before.before.before in
-    checking-wrong tested.before.before.loop.invariant _ (subst (TestsLine _ _) c.before.k.given.1 (told tested)))
-    -- enum-known-size
+    checking-wrong c.loop-k.invariant _ (subst (TestsLine _ _) c.in-Faulty.is (told c.before)))
+    -- enum_known-size
     (λ c. search rules)
-    -- sub-if1
-    (λ c. omega (arith, c.before.before.before.before.before.loop.invariant.within))
-    -- returns-2
+    -- overflow_sub-text
+    (λ c. omega (arith, c.loop-k.invariant.within))
+    -- returns-then-size-text
     (λ c.
-    let tested = c.before.before.before.before in
-    checking-more tested.before.before.loop.invariant _ (subst (TestsLine _ _) c.before.before.size.given.1 (told tested)) c.if1.true)
-    -- returns-3
+    checking-more c.loop-k.invariant _ (subst (TestsLine _ _) c.in-End.is (told c.before.before)) c.if-size-text.true)
+    -- returns-in-End
     (λ c.
-    let tested = c.before.before.before.before in
-    checking-right tested.before.before.loop.invariant _ (subst (TestsLine _ _) c.before.before.size.given.1 (told tested)) c.if1.false)
-    -- enum-known-count
+    checking-right c.loop-k.invariant _ (subst (TestsLine _ _) c.in-End.is (told c.before.before)) c.if-size-text.false)
+    -- enum_known-count
     (λ c. search rules)
-    -- add-at
+    -- overflow_add-at
     (λ c. omega (arith, (next c).within))
-    -- add-done
+    -- overflow_add-done
     (λ c. let n = next c in omega (arith, n.many, n.held.1))
-    -- loop-less
+    -- loop-k-smaller
     (λ c. omega (arith, (next c).within, (taken c).3.1))
-    -- loop-again
+    -- loop-k-preserved
     (λ c. next c))

@@ -20,24 +20,24 @@ goes_on line s = omega (arith, size-within line s, s.finish)
 none_told : (line : List ℕ) (room : ℕ) → (Shaped line → data_count line ≤ room → ⊥) → Recounts line room 256
 none_told line room n = record { within = λ h. absurd (omega arith); own = λ s r. absurd (n s r) }
 
-count-told : (c : tie.After-byte-at) → data_count c.before.before.before.args.line.now ≡ c.byte-at.result
-count-told c = count-is c.before.before.before.args.line.now ∙ sym c.byte-at.ensures.0
+count-told : (c : tie.After-byte_at-count) → data_count c.args.line.now ≡ c.byte_at-count.result
+count-told c = count-is c.args.line.now ∙ sym c.byte_at-count.ensures.0
 
 pub count_within_spec : {M : Type 1} → statement M
 count_within_spec =
     tie.close
     (tie.spec
-    -- returns
+    -- returns-then-line-lt12
     (λ c. none_told _ _ (λ s r. omega (arith, goes_on _ s)))
-    -- byte-at-requires
+    -- byte_at-count-requires
     (λ c κs. search rules)
-    -- mul-if2
+    -- overflow_mul-count
     (λ c. search rules)
-    -- add-if2
+    -- overflow_add-count
     (λ c. search rules)
-    -- returns-2
+    -- returns-then-line-count
     (λ c. none_told _ _ (λ s r. omega (arith, goes_on _ s, count-told c.before)))
-    -- returns-3
+    -- returns-then-room-count
     (λ c. none_told _ _ (λ s r. omega (arith, count-told c.before.before)))
-    -- returns-4
-    (λ c. record { within = λ h. (c.if3.false, c.before.if2.false); own = λ s r. sym (count-told c.before.before) }))
+    -- returns
+    (λ c. record { within = λ h. (c.if-room-count.false, c.if-line-count.false); own = λ s r. sym (count-told c.before.before) }))

@@ -11,46 +11,46 @@ unfolding digit_number
 digit_number_spec =
     tie.close
     (tie.spec
-    -- returns
+    -- returns-then-c-lt48
     (λ c.
-    let x = c.before.before.args.c in
+    let x = c.args.c in
     (rw (lt-leb 48 x (omega arith), lt-leb 65 x (omega arith), lt-leb 97 x (omega arith)), omega arith))
-    -- cast-result
+    -- overflow_cast-result
     (λ c. search rules)
-    -- returns-2
+    -- returns-then-c-le57
     (λ c.
-    let x = c.before.before.args.c in
+    let x = c.args.c in
     (rw (le-leb 48 x (omega arith), le-leb x 57 (omega arith)), omega arith))
-    -- returns-3
+    -- returns-then-c-lt65
     (λ c.
-    let x = c.before.before.before.args.c in
+    let x = c.args.c in
     (rw (le-leb 48 x (omega arith), lt-leb x 57 (omega arith), lt-leb 65 x (omega arith), lt-leb 97 x (omega arith)), omega arith))
-    -- sub-result
+    -- overflow_sub-result-then-c-le70
     (λ c. search rules)
-    -- cast-result-2
+    -- overflow_cast-result-then-c-le70
     (λ c. search rules)
-    -- returns-4
+    -- returns-then-c-le70
     (λ c.
-    let x = c.before.before.before.args.c in
+    let x = c.args.c in
     (rw (le-leb 48 x (omega arith), lt-leb x 57 (omega arith), le-leb 65 x (omega arith), le-leb x 70 (omega arith)), omega arith))
-    -- returns-5
+    -- returns-then-c-lt97
     (λ c.
-    let x = c.before.before.before.args.c in
+    let x = c.args.c in
     let low = lt-leb 97 x (omega arith) in
     (rw (le-leb 48 x (omega arith), lt-leb x 57 (omega arith), le-leb 65 x (omega arith), lt-leb x 70 (omega arith), low), omega arith))
-    -- sub-result-2
+    -- overflow_sub-result-then-c-le102
     (λ c. search rules)
-    -- cast-result-3
+    -- overflow_cast-result-then-c-le102
     (λ c. search rules)
-    -- returns-6
+    -- returns-then-c-le102
     (λ c.
-    let x = c.before.before.before.before.args.c in
+    let x = c.args.c in
     let small = le-leb 97 x (omega arith) in
     let high = le-leb x 102 (omega arith) in
     (rw (le-leb 48 x (omega arith), lt-leb x 57 (omega arith), le-leb 65 x (omega arith), lt-leb x 70 (omega arith), small, high), omega arith))
-    -- returns-7
+    -- returns
     (λ c.
-    let x = c.before.before.before.before.args.c in
+    let x = c.args.c in
     let small = le-leb 97 x (omega arith) in
     let high = lt-leb x 102 (omega arith) in
     (rw (le-leb 48 x (omega arith), lt-leb x 57 (omega arith), le-leb 65 x (omega arith), lt-leb x 70 (omega arith), small, high), omega arith)))

@@ -16,34 +16,34 @@ unfolding line_end
 end_at_spec =
     tie.close
     (tie.spec
-    -- shared-slice-read-if1
+    -- bounds-line-at
     (λ c. search rules)
-    -- returns
-    (λ c. let a = c.before.before.args in (rw (get_or-drop a.at a.line.now 0 0, add-zero, c.if1.true), omega arith))
-    -- shared-slice-read-if2
+    -- returns-then-line-at-eq10
+    (λ c. let a = c.args in (rw (get_or-drop a.at a.line.now 0 0, add-zero, c.if-line-at-eq10.true), omega arith))
+    -- bounds-line-at-2
     (λ c. search rules)
-    -- returns-2
+    -- returns-then-line-at-ne13
     (λ c.
-    let a = c.before.before.before.before.args in
-    (rw (get_or-drop a.at a.line.now 0 0, add-zero, ne_eqb _ 10 c.before.before.if1.false, ne_eqb _ 13 c.if2.true), omega arith))
-    -- sub-if3
+    let a = c.args in
+    (rw (get_or-drop a.at a.line.now 0 0, add-zero, ne_eqb _ 10 c.if-line-at-eq10.false, ne_eqb _ 13 c.if-line-at-ne13.true), omega arith))
+    -- overflow_sub-line
     (λ c. search rules)
-    -- returns-3
+    -- returns-then-line-at-lt2
     (λ c.
-    let a = c.before.before.before.before.before.args in
+    let a = c.args in
     let past : get_or a.line.now (a.at + 1) 0 ≡ 0 = get_or-eq_default a.line.now 0 (omega arith) in
-    (rw (get_or-drop a.at a.line.now 0 0, add-zero, c.before.if2.false, get_or-drop a.at a.line.now 1 0, past), omega arith))
-    -- add-if4
+    (rw (get_or-drop a.at a.line.now 0 0, add-zero, c.if-line-at-ne13.false, get_or-drop a.at a.line.now 1 0, past), omega arith))
+    -- overflow_add-at
     (λ c. search rules)
-    -- shared-slice-read-if4
+    -- bounds-line-at-3
     (λ c. search rules)
-    -- returns-4
+    -- returns-then-line-at-eq10-2
     (λ c.
-    let a = c.before.before.before.before.before.before.before.args in
-    let returned = c.before.before.before.if2.false in
-    (rw (get_or-drop a.at a.line.now 0 0, add-zero, returned, get_or-drop a.at a.line.now 1 0, c.if4.true), omega arith))
-    -- returns-5
+    let a = c.args in
+    let returned = c.if-line-at-ne13.false in
+    (rw (get_or-drop a.at a.line.now 0 0, add-zero, returned, get_or-drop a.at a.line.now 1 0, c.if-line-at-eq10-2.true), omega arith))
+    -- returns
     (λ c.
-    let a = c.before.before.before.before.before.before.before.args in
-    let other = ne_eqb _ 10 c.if4.false in
-    (rw (get_or-drop a.at a.line.now 0 0, add-zero, c.before.before.before.if2.false, get_or-drop a.at a.line.now 1 0, other), omega arith)))
+    let a = c.args in
+    let other = ne_eqb _ 10 c.if-line-at-eq10-2.false in
+    (rw (get_or-drop a.at a.line.now 0 0, add-zero, c.if-line-at-ne13.false, get_or-drop a.at a.line.now 1 0, other), omega arith)))

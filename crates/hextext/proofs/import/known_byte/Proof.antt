@@ -26,6 +26,6 @@ known_byte_spec =
     (λ c. search rules)
     -- returns
     (λ c h.
-    let a = c.before.before.before.before.before.args in
+    let a = c.args in
     let digits = spelled-digits (get_or a.line.now (2 * a.i + 1) 0) (get_or a.line.now (2 * a.i + 2) 0) h in
-    omega (arith, c.before.before.known-digit.ensures.0 digits.0, c.known-digit2.ensures.0 digits.1, digits.0, digits.1, digits.2)))
+    omega (arith, c.known_digit-high.ensures.0 digits.0, c.known_digit-low.ensures.0 digits.1, digits.0, digits.1, digits.2)))

@@ -10,9 +10,9 @@ pub known_digit_spec : {M : Type 1} → statement M
 known_digit_spec =
     tie.close
     (tie.spec
-    -- mul-result
+    -- overflow_mul-result
     (λ c. search rules)
-    -- add-result
+    -- overflow_add-result
     (λ c. search rules)
     -- returns
     (λ c. (λ h. sym (digit-known c.args.c h), omega arith)))

@@ -7,13 +7,13 @@ pub line_size_spec : {M : Type 1} → statement M
 line_size_spec =
     tie.close
     (tie.spec
-    -- mul-behind
+    -- overflow_mul-behind
     (λ c. search rules)
-    -- add-behind
+    -- overflow_add-behind
     (λ c. search rules)
-    -- end-at-requires
+    -- end_at-requires
     (λ c κs. search rules)
-    -- add-result
+    -- overflow_add-result
     (λ c. search rules)
     -- returns
     (λ c. search rules))

@@ -1,5 +1,5 @@
 -- `hextext::import::tell_shape` meets its contract. Assumes nothing.
-use mathlib.Core.Path.{◌≡◌, sym, ap, subst, ◌∙◌}
+use mathlib.Core.Path.{◌≡◌, sym, subst, ◌∙◌}
 use mathlib.Core.List.{List}
 use Prim.Native.Nat.{ℕ, ◌+◌, ◌*◌}
 use native.Mathlib.Omega.{arith}
@@ -13,69 +13,67 @@ use Rattle.hextext.specs.Answers.{Sums}
 use Rattle.hextext.proofs.import.tell_shape.Statement.{statement}
 use Rattle.hextext.proofs.import.tell_shape.Tie as tie
 
-abbrev line_of : tie.After-byte-at → List ℕ
-line_of c = c.before.before.before.before.before.args.line.now
+abbrev line_of : tie.After-byte_at-count → List ℕ
+line_of c = c.args.line.now
 
-count-told : (c : tie.After-byte-at) → data_count (line_of c) ≡ c.byte-at.result
-count-told c = count-is (line_of c) ∙ sym c.byte-at.ensures.0
+count-told : (c : tie.After-byte_at-count) → data_count (line_of c) ≡ c.byte_at-count.result
+count-told c = count-is (line_of c) ∙ sym c.byte_at-count.ensures.0
 
-bytes-told : (c : tie.After-byte-at) → line_bytes (line_of c) ≡ spelled_bytes (5 + c.byte-at.result) (drop 1 (line_of c))
+bytes-told : (c : tie.After-byte_at-count) → line_bytes (line_of c) ≡ spelled_bytes (5 + c.byte_at-count.result) (drop 1 (line_of c))
 bytes-told c = rw (count-told c) at (bytes-are (line_of c))
 
-end-told : (c : tie.After-end-at) → let counted = c.before.before.before in
-    c.end-at.result ≡ line_end (drop (11 + 2 * data_count (line_of counted)) (line_of counted))
-end-told c = rw (count-told c.before.before.before) c.end-at.ensures.0
+end-told : (c : tie.After-end_at-end) → let counted = c.before.before.before in
+    c.end_at-end.result ≡ line_end (drop (11 + 2 * data_count (line_of counted)) (line_of counted))
+end-told c = rw (count-told c.before.before.before) c.end_at-end.ensures.0
 
 pub tell_shape_spec : {M : Type 1} → statement M
 tell_shape_spec =
     tie.close
     (tie.spec
-    -- returns
-    (λ c s. absurd (omega (arith, size-within c.before.before.args.line.now s, s.finish)))
-    -- shared-slice-read-if2
+    -- returns-then-line-lt12
+    (λ c s. absurd (omega (arith, size-within c.args.line.now s, s.finish)))
+    -- bounds-line-0
     (λ c. search rules)
-    -- returns-2
-    (λ c s. c.if2.true s.colon)
-    -- byte-at-requires
+    -- returns-then-line-ne58
+    (λ c s. c.if-line-ne58.true s.colon)
+    -- byte_at-count-requires
     (λ c κs. search rules)
-    -- returns-3
+    -- returns-then-count-ge256
     (λ c s. absurd (omega (arith, shaped-count (line_of c.before) s, count-told c.before)))
-    -- mul-behind
+    -- overflow_mul-behind
     (λ c. search rules)
-    -- add-behind
+    -- overflow_add-behind
     (λ c. search rules)
-    -- returns-4
+    -- returns-then-line-behind
     (λ c s. absurd (omega (arith, size-within (line_of c.before.before) s, s.finish, count-told c.before.before)))
-    -- end-at-requires
+    -- end_at-end-requires
     (λ c κs. search rules)
-    -- returns-5
-    (λ c s. absurd (omega (arith, s.finish, end-told c.before, c.if5.true)))
-    -- add-sum-spelled
+    -- returns-then-end-eq0
+    (λ c s. absurd (omega (arith, s.finish, end-told c.before, c.if-end-eq0.true)))
+    -- overflow_add-count
     (λ c. search rules)
-    -- sum-spelled-requires
+    -- sum_spelled-requires
     (λ c κs. search rules)
-    -- enum_told
+    -- enum_told-1
     (λ c. search rules)
-    -- enum-known-sum
+    -- enum_known-sum
     (λ c. search rules)
-    -- add-t12
+    -- overflow_add-result
     (λ c.
-    let ended = c.before.before.before.before.before in
+    let ended = c.before.before.before in
     omega (arith, end-told ended, end-most (drop (11 + 2 * data_count (line_of ended.before.before.before)) (line_of ended.before.before.before))))
-    -- returns-6
+    -- returns-in-Unspelled
     (λ c s.
-    let added = c.before.before in
-    let counted = added.before.before.before.before.before in
-    let none = subst (Sums (spelled_bytes (5 + counted.byte-at.result) (drop 1 (line_of counted)))) c.enum_told.given.1 added.Sum-spelled.ensures in
+    let counted = c.before.before.before.before.before.before in
+    let none = subst (Sums (spelled_bytes (5 + counted.byte_at-count.result) (drop 1 (line_of counted)))) c.in-Unspelled.is c.sum_spelled.ensures in
     clash (cc (s.bytes, bytes-told counted)))
-    -- returns-7
+    -- returns-in-Whole
     (λ c.
-    let added = c.before.before.before in
-    let ended = added.before.before in
+    let ended = c.before.before.before in
     let counted = ended.before.before.before in
-    let all = subst (Sums (spelled_bytes (5 + counted.byte-at.result) (drop 1 (line_of counted)))) c.before.sum.given.1 added.Sum-spelled.ensures in
+    let all = subst (Sums (spelled_bytes (5 + counted.byte_at-count.result) (drop 1 (line_of counted)))) c.in-Whole.is c.sum_spelled.ensures in
     let shape : Shaped (line_of counted) = record {
-      colon = counted.before.if2.false;
+      colon = counted.if-line-ne58.false;
       bytes = rw (bytes-told counted) all.0;
       finish = omega (arith, end-told ended);
     } in

@@ -11,17 +11,17 @@ pub test_line_spec : {M : Type 1} → statement M
 test_line_spec =
     tie.close
     (tie.spec
-    -- returns
-    (λ c. refuse-none _ _ c.if1.true)
-    -- tell-shape-requires
+    -- returns-then-line-eq0
+    (λ c. refuse-none _ _ c.if-line-eq0.true)
+    -- tell_shape-requires
     (λ c κs. omega arith)
-    -- enum_told
+    -- enum_told-1
     (λ c. search rules)
-    -- enum-known-l
+    -- enum_known-l
     (λ c. search rules)
-    -- test-shaped-requires
-    (λ c κs. (subst (TellsShape _) c.before.l.given.1 c.before.before.before.tell-shape.ensures, omega arith))
-    -- returns-2
-    (λ c. refuse-shape _ _ (omega arith) (subst (TellsShape _) c.enum_told.given.1 c.before.before.tell-shape.ensures))
-    -- returns-3
+    -- test_shaped-requires
+    (λ c κs. (subst (TellsShape _) c.in-Good.is c.tell_shape.ensures, omega arith))
+    -- returns-in-Bad
+    (λ c. refuse-shape _ _ (omega arith) (subst (TellsShape _) c.in-Bad.is c.tell_shape.ensures))
+    -- returns-in-Good
     (λ c. search rules))

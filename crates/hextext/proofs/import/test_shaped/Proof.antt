@@ -13,86 +13,86 @@ use Rattle.hextext.proofs.import.test_shaped.Statement.{statement}
 use Rattle.hextext.proofs.import.test_shaped.Tie as tie
 
 -- the line's numbers where its type and address are read
-numbered : (c : tie.After-byte-at3) → let a = c.before.before.before.before.args in
-    LineNumbers a.line.now a.l c.before.before.byte-at.result (256 * c.before.byte-at2.result + c.byte-at3.result)
+numbered : (c : tie.After-byte_at-2) → let a = c.args in
+    LineNumbers a.line.now a.l c.byte_at-kind.result (256 * c.byte_at.result + c.byte_at-2.result)
 numbered c =
-    let start = c.before.before.before.before in
+    let start = c in
     let line = start.args.line.now in
     record {
       measured = start.requires.0;
-      type-told = type-is line ∙ sym c.before.before.byte-at.ensures.0;
-      address-told = omega (arith, address_is line, c.before.byte-at2.ensures.0, c.byte-at3.ensures.0);
+      type-told = type-is line ∙ sym c.byte_at-kind.ensures.0;
+      address-told = omega (arith, address_is line, c.byte_at.ensures.0, c.byte_at-2.ensures.0);
     }
 
-abbrev line_of : tie.After-byte-at3 → List ℕ
-line_of c = c.before.before.before.before.args.line.now
+abbrev line_of : tie.After-byte_at-2 → List ℕ
+line_of c = c.args.line.now
 
 -- the tests that were passed on the way
-bare : (c : tie.Else1) → laden_end (line_of c.before.before) ≡ false
-bare c = laden-is (numbered c.before.before) ∙ sym c.before.is-laden-end.ensures ∙ c.if1.false
+bare : (c : tie.Else-is_laden_end) → laden_end (line_of c.before.before) ≡ false
+bare c = laden-is (numbered c.before.before) ∙ sym c.is_laden_end.ensures ∙ c.if-is_laden_end.false
 
-summed : (c : tie.Else2) → wrong_sum (line_of c.before.before.before.before) ≡ false
-summed c = sum_is (numbered c.before.before.before.before) ∙ rw c.if2.false
+summed : (c : tie.Else-l-ne0) → wrong_sum (line_of c.before.before.before.before) ≡ false
+summed c = sum_is (numbered c.before.before.before.before) ∙ rw c.if-l-ne0.false
 
-placed : (c : tie.Else3) → let d = c.before.before.before.before.before.before in
-    displaced d.before.before.before.before.args.done (line_of d) ≡ false
-placed c = displaced-is (numbered c.before.before.before.before.before.before) _ ∙ sym c.before.is-displaced.ensures ∙ c.if3.false
+placed : (c : tie.Else-is_displaced) → let d = c.before.before.before.before.before.before in
+    displaced d.args.done (line_of d) ≡ false
+placed c = displaced-is (numbered c.before.before.before.before.before.before) _ ∙ sym c.is_displaced.ensures ∙ c.if-is_displaced.false
 
-passes : (c : tie.Else4) → let d = c.before.before.before.before.before.before.before in
-    line_refusal d.before.before.before.before.args.done (line_of d) ≡ []
+passes : (c : tie.Else-kind-gt1) → let d = c.before.before.before.before.before.before.before in
+    line_refusal d.args.done (line_of d) ≡ []
 passes c =
     let summed-here = c.before.before.before in
     let bare-here = summed-here.before.before in
     let n = numbered bare-here.before.before in
-    line-passes _ _ n.decreases.shaped (bare bare-here) (summed summed-here) (placed c.before) (omega (arith, n.type-told))
+    line-passes _ _ n.measured.shaped (bare bare-here) (summed summed-here) (placed c.before) (omega (arith, n.type-told))
 
 pub test_shaped_spec : {M : Type 1} → statement M
 test_shaped_spec =
     tie.close
     (tie.spec
-    -- byte-at-requires
-    (λ c κs. omega (arith, measured-room c.before.requires.0))
-    -- byte-at-requires-2
-    (λ c κs. omega (arith, measured-room c.before.before.requires.0))
-    -- mul-address
+    -- byte_at-kind-requires
+    (λ c κs. omega (arith, measured-room c.requires.0))
+    -- byte_at-requires
+    (λ c κs. omega (arith, measured-room c.requires.0))
+    -- overflow_mul-address
     (λ c. search rules)
-    -- byte-at-requires-3
-    (λ c κs. omega (arith, measured-room c.before.before.before.requires.0))
-    -- add-address
+    -- byte_at-requires-2
+    (λ c κs. omega (arith, measured-room c.requires.0))
+    -- overflow_add-address
     (λ c. search rules)
-    -- is-laden-end-requires
+    -- is_laden_end-requires
     (λ c κs. search rules)
-    -- returns
+    -- returns-then-is_laden_end
     (λ c.
     let n = numbered c.before.before in
-    refuse-laden _ _ n.decreases.shaped (laden-is n ∙ sym c.before.is-laden-end.ensures ∙ c.if1.true))
-    -- returns-2
+    refuse-laden _ _ n.measured.shaped (laden-is n ∙ sym c.is_laden_end.ensures ∙ c.if-is_laden_end.true))
+    -- returns-then-l-ne0
     (λ c.
     let bare-here = c.before.before in
     let n = numbered bare-here.before.before in
-    refuse-sum _ _ n.decreases.shaped (bare bare-here) (sum_is n ∙ rw (ne_eqb _ 0 c.if2.true)))
-    -- is-displaced-requires
+    refuse-sum _ _ n.measured.shaped (bare bare-here) (sum_is n ∙ rw (ne_eqb _ 0 c.if-l-ne0.true)))
+    -- is_displaced-requires
     (λ c κs. search rules)
-    -- returns-3
+    -- returns-then-is_displaced
     (λ c.
     let summed-here = c.before.before in
     let bare-here = summed-here.before.before in
     let n = numbered bare-here.before.before in
-    let out = displaced-is n _ ∙ sym c.before.is-displaced.ensures ∙ c.if3.true in
-    refuse-place _ _ n.decreases.shaped (bare bare-here) (summed summed-here) out)
-    -- returns-4
+    let out = displaced-is n _ ∙ sym c.is_displaced.ensures ∙ c.if-is_displaced.true in
+    refuse-place _ _ n.measured.shaped (bare bare-here) (summed summed-here) out)
+    -- returns-then-kind-gt1
     (λ c.
     let summed-here = c.before.before.before in
     let bare-here = summed-here.before.before in
     let n = numbered bare-here.before.before in
-    refuse-type _ _ n.decreases.shaped (bare bare-here) (summed summed-here) (placed c.before) (omega (arith, n.type-told)))
-    -- is-end-requires
-    (λ c κs. omega (arith, measured-room (numbered c.before.before.before.before.before.before.before).decreases))
-    -- returns-5
+    refuse-type _ _ n.measured.shaped (bare bare-here) (summed summed-here) (placed c.before) (omega (arith, n.type-told)))
+    -- is_end-requires
+    (λ c κs. omega (arith, measured-room (numbered c.before.before.before.before.before.before.before).measured))
+    -- returns-then-is_end
     (λ c.
     let n = numbered c.before.before.before.before.before.before.before.before.before in
-    (passes c.before.before, sym c.before.is-end.ensures ∙ c.if5.true, measured-spans n.decreases))
-    -- returns-6
+    (passes c.before.before, sym c.is_end.ensures ∙ c.if-is_end.true, measured-spans n.measured))
+    -- returns
     (λ c.
     let n = numbered c.before.before.before.before.before.before.before.before.before in
-    (passes c.before.before, sym c.before.is-end.ensures ∙ c.if5.false, n.decreases.count-told, measured-spans n.decreases)))
+    (passes c.before.before, sym c.is_end.ensures ∙ c.if-is_end.false, n.measured.count-told, measured-spans n.measured)))

@@ -15,72 +15,66 @@ use Rattle.moves.proofs.ToNew.{own-said, Collecting, number-less, collecting-beg
 use Rattle.moves.proofs.to_new.collect.Statement.{statement}
 use Rattle.moves.proofs.to_new.collect.Tie as tie
 
-abbrev invariant-loop : tie.invariant-loop
-invariant-loop dump places kept₀ at₀ total₀ layouts₀ kept at total layouts = Collecting dump kept at total layouts
+abbrev invariant-loop-head : tie.invariant-loop-head
+invariant-loop-head dump places kept₀ at₀ total₀ layouts₀ kept at total layouts = Collecting dump kept at total layouts
 
-abbrev decreases-loop : tie.decreases-loop
-decreases-loop dump places kept₀ at₀ total₀ layouts₀ kept at total layouts = length dump - at
+abbrev decreases-loop-head : tie.decreases-loop-head
+decreases-loop-head dump places kept₀ at₀ total₀ layouts₀ kept at total layouts = length dump - at
 
 -- the record at the place, and what is known with it
-here : (c : tie.After-head invariant-loop decreases-loop) → let l = c.before.before.before in
-    let a = l.before.before.before.before.args in
-    step Old a.dump.now l.loop.at ≡ taken (head_record (source_of Old a.dump.now a.places.now) c.head.given.0.0)
-here c = at-record Old _ _ _ c.before.before.locate.ensures c.head.given.1
+here : (c : tie.In-Record invariant-loop-head decreases-loop-head) → let a = c.args in
+    step Old a.dump.now c.loop-head.at ≡ taken (head_record (source_of Old a.dump.now a.places.now) c.in-Record.head)
+here c = at-record Old _ _ _ c.locate.ensures c.in-Record.is
 
-next : (c : tie.After-new-length invariant-loop decreases-loop) →
+next : (c : tie.After-new_length-total invariant-loop-head decreases-loop-head) →
     let k = c.before.before.before in
-    let r = k.before.before.before.head.given.0.0 in
-    let l = k.before.before.before.before.before.before in
-    Collecting l.before.before.before.before.args.dump.now k.keep-layout.new.0 (r.start + r.count) (l.loop.total + c.new-length.result)
-    k.keep-layout.result
+    let r = k.in-Record.head in
+    Collecting k.args.dump.now k.keep_layout-layouts.new.kept (r.start + r.count) (k.loop-head.total + c.new_length-total.result)
+    k.keep_layout-layouts.result
 next c =
     let k = c.before.before.before in
     let e = here k.before.before.before in
-    let l = k.before.before.before.before.before.before in
-    collecting-next _ _ l.before.before.before.before.requires.0 l.loop.invariant _ e _
-    (c.new-length.ensures _ (cells_count Old _ _ _ e) ∙ ap length (number-less _ _)) _ _ (λ ls kept. rw (own-said _ _ _) (k.keep-layout.ensures ls kept))
+    collecting-next _ _ k.requires.0 k.loop-head.invariant _ e _
+    (c.new_length-total.ensures _ (cells_count Old _ _ _ e) ∙ ap length (number-less _ _)) _ _ (λ ls kept. rw (own-said _ _ _) (k.keep_layout-layouts.ensures ls kept))
 
 pub collect_spec : {M : Type 1} → statement M
 collect_spec =
     tie.close
     (tie.spec
-    invariant-loop
-    decreases-loop
-    -- loop-holds
-    (λ c. let s = c.before.before.before in collecting-begin _ _ s.requires.0 _ s.requires.1)
+    invariant-loop-head
+    decreases-loop-head
+    -- loop-head-init
+    (λ c. collecting-begin _ _ c.requires.0 _ c.requires.1)
     -- locate-requires
-    (λ c κs. record { start = 0; opens = c.before.before.before.before.requires.0 })
+    (λ c κs. record { start = 0; opens = c.requires.0 })
     (λ c. search rules)
-    -- keep-layout-requires
-    (λ c κs. let k = c.before.before.before.before.before.loop.invariant.keeps in (k.few, k.long))
-    -- new-length-requires
+    -- keep_layout-layouts-requires
+    (λ c κs. let k = c.loop-head.invariant.keeps in (k.few, k.long))
+    -- new_length-total-requires
     (λ c κs.
     let r = c.before.before.before.before.before in
     let e = here r in
-    let s = r.before.before.before.before.before.before in
     let f = step-forward Old _ _ _ e in
-    ((head-below Old _ _ _ _ _ (λ i h. omega (arith, s.shared-slice-known.given i)) s.before.requires.0 e).0, omega (arith, f.0, f.2)))
-    -- add-total
-    (λ c. omega (arith, (next c).decreases.few, step-forward Old _ _ _ (here c.before.before.before.before.before.before)))
-    -- add-at
+    ((head-below Old _ _ _ _ _ (λ i h. omega (arith, r.shared_slice_known-1.given i)) r.requires.0 e).0, omega (arith, f.0, f.2)))
+    -- overflow_add-total
+    (λ c. omega (arith, (next c).measured.few, step-forward Old _ _ _ (here c.before.before.before.before.before.before)))
+    -- overflow_add-at
     (λ c. omega (arith, step-forward Old _ _ _ (here c.before.before.before.before.before.before.before)))
-    -- loop-less
+    -- loop-head-smaller
     (λ c. omega (arith, step-forward Old _ _ _ (here c.before.before.before.before.before.before.before)))
-    -- loop-again
+    -- loop-head-preserved
     (λ c. next c.before)
     (λ c. search rules)
-    -- same-length
-    (λ c. let l = c.before.before.before in omega (arith, l.loop.invariant.keeps.long, l.before.before.before.before.requires.1))
-    -- returns
+    -- shape_of-kept-in-End
+    (λ c. omega (arith, c.loop-head.invariant.keeps.long, c.requires.1))
+    -- returns-in-End
     (λ c.
-    let l = c.before.before.before in
-    collecting-end _ _ l.before.before.before.before.requires.0 l.loop.invariant
-    (at-end Old _ _ _ c.before.before.locate.ensures c.enum_told.given.1))
+    collecting-end _ _ c.requires.0 c.loop-head.invariant
+    (at-end Old _ _ _ c.locate.ensures c.in-End.is))
     (λ c. search rules)
-    -- same-length-2
-    (λ c. let l = c.before.before.before.before in omega (arith, l.loop.invariant.keeps.long, l.before.before.before.before.requires.1))
-    -- returns-2
+    -- shape_of-kept-in-Stop
+    (λ c. omega (arith, c.loop-head.invariant.keeps.long, c.requires.1))
+    -- returns-in-Stop
     (λ c.
-    let l = c.before.before.before.before in
-    passing-stop l.loop.invariant.measured.pass c.before.halt.given.0.0
-    (at-stop Old _ _ _ c.before.before.before.locate.ensures c.before.halt.given.1)))
+    passing-stop c.loop-head.invariant.measured.pass c.in-Stop.halt
+    (at-stop Old _ _ _ c.locate.ensures c.in-Stop.is)))

@@ -12,22 +12,20 @@ is_kept_spec =
     (λ c. search rules)
     (λ c. search rules)
     (λ c. search rules)
+    -- returns-then-kept-first
+    (λ c. unlike-v _ _ _ _ _ c.if-kept-first.true)
+    (λ c. search rules)
+    (λ c. search rules)
+    (λ c. search rules)
+    -- returns-then-kept-first-2
+    (λ c. unlike-t _ _ _ _ _ c.if-kept-first-2.true)
+    (λ c. search rules)
+    (λ c. search rules)
+    (λ c. search rules)
+    -- returns-then-kept-first-3
+    (λ c. unlike-m _ _ _ _ _ c.if-kept-first-3.true)
+    (λ c. search rules)
+    (λ c. search rules)
     -- returns
-    (λ c. unlike-v _ _ _ _ _ c.if1.true)
-    (λ c. search rules)
-    (λ c. search rules)
-    (λ c. search rules)
-    -- returns-2
-    (λ c. unlike-t _ _ _ _ _ c.if2.true)
-    (λ c. search rules)
-    (λ c. search rules)
-    (λ c. search rules)
-    -- returns-3
-    (λ c. unlike-m _ _ _ _ _ c.if3.true)
-    (λ c. search rules)
-    (λ c. search rules)
-    -- returns-4
     (λ c.
-    let third = c.before in
-    let second = third.before.before.before in
-    by_form _ _ _ _ _ second.before.before.before.if1.false second.if2.false third.if3.false))
+    by_form _ _ _ _ _ c.if-kept-first.false c.if-kept-first-2.false c.if-kept-first-3.false))

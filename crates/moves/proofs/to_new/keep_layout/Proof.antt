@@ -10,33 +10,33 @@ pub keep_layout_spec : {M : Type 1} → statement M
 keep_layout_spec =
     tie.close
     (tie.spec
-    -- returns
+    -- returns-then-count-gt-LAYOUTS_MOST
     (λ c ls k. keeps-over k _ (omega arith))
     (λ c κs. search rules)
     (λ c. search rules)
-    -- returns-2
-    (λ c ls k. keeps-known k (omega arith) _ _ c.before.place-of.ensures c.if2.true)
+    -- returns-then-place_of-count
+    (λ c ls k. keeps-known k (omega arith) _ _ c.place_of.ensures c.if-place_of-count.true)
     (λ c. search rules)
     (λ c. search rules)
-    -- returns-3
-    (λ c ls k. keeps-full k (omega arith) _ _ c.before.before.place-of.ensures (omega arith) (omega arith))
+    -- returns-then-count-eq-LAYOUTS_MOST
+    (λ c ls k. keeps-full k (omega arith) _ _ c.place_of.ensures (omega arith) (omega arith))
     (λ c. search rules)
     (λ c. search rules)
     (λ c. search rules)
     (λ c. search rules)
     (λ c. search rules)
-    -- slice-write-kept-2
+    -- bounds-kept-first-2
     (λ c. simp length-set (omega arith))
     (λ c. search rules)
     (λ c. search rules)
-    -- slice-write-kept-3
+    -- bounds-kept-first-3
     (λ c. simp length-set (omega arith))
     (λ c. search rules)
     (λ c. search rules)
-    -- slice-write-kept-4
+    -- bounds-kept-first-4
     (λ c. simp length-set (omega arith))
     (λ c. search rules)
-    -- same-length-3
+    -- shape_of-kept
     (λ c. simp length-set)
-    -- returns-4
-    (λ c ls k. keeps-more k (omega arith) _ _ _ _ c.before.before.place-of.ensures (omega arith) (omega arith)))
+    -- returns
+    (λ c ls k. keeps-more k (omega arith) _ _ _ _ c.place_of.ensures (omega arith) (omega arith)))

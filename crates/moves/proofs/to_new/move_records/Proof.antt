@@ -17,17 +17,14 @@ move_records_spec =
     (λ c. search rules)
     -- store-requires
     (λ c κs.
-    let t = c.before.before.before in
-    let k = t.before.before.before in
-    (k.before.before.before.before.before.requires, subst (Gathers _ _) t.total.given.1 k.collect.ensures))
+    (c.requires, subst (Gathers _ _) c.in-Whole.is c.collect.ensures))
     (λ c. search rules)
     (λ c κs. search rules)
     (λ c. search rules)
-    -- returns
-    (λ c. c.before.before.store.ensures)
-    -- returns-2
+    -- returns-in-Whole
+    (λ c. c.store.ensures)
+    -- returns-in-Stopped
     (λ c.
-    let h = c.before.before in
-    let stops = subst (Gathers _ _) h.halt.given.1 h.before.before.before.collect.ensures in
-    let m = moves-new _ _ (move-halted _ _ _ _ _ h.halt.given.0.0 stops) in
-    (c.stop-move.ensures ∙ m.0, m.1)))
+    let stops = subst (Gathers _ _) c.in-Stopped.is c.collect.ensures in
+    let m = moves-new _ _ (move-halted _ _ _ _ _ c.in-Stopped.halt stops) in
+    (c.stop_move.ensures ∙ m.0, m.1)))

@@ -9,32 +9,30 @@ use Rattle.moves.proofs.Keeping.{place_none, place_here, place-next}
 use Rattle.moves.proofs.to_new.place_of.Statement.{statement}
 use Rattle.moves.proofs.to_new.place_of.Tie as tie
 
-abbrev invariant-loop : tie.invariant-loop
-invariant-loop kept count said i₀ i = (i ≤ count) × (i ≡ place_of (kept_layouts i kept) (said_listed said))
+abbrev invariant-loop-i : tie.invariant-loop-i
+invariant-loop-i kept count said i₀ i = (i ≤ count) × (i ≡ place_of (kept_layouts i kept) (said_listed said))
 
-abbrev decreases-loop : tie.decreases-loop
-decreases-loop kept count said i₀ i = count - i
+abbrev decreases-loop-i : tie.decreases-loop-i
+decreases-loop-i kept count said i₀ i = count - i
 
 pub place_of_spec : {M : Type 1} → statement M
 place_of_spec =
     tie.close
     (tie.spec
-    invariant-loop
-    decreases-loop
-    -- loop-holds
+    invariant-loop-i
+    decreases-loop-i
+    -- loop-i-init
     (λ c. (omega arith, place_none _ _))
     (λ c κs. search rules)
+    -- returns-then-is_kept
+    (λ c.
+    place_here _ _ _ c.loop-i.invariant.1 _ c.loop-i-test.true (sym c.is_kept.ensures ∙ c.if-is_kept.true))
+    (λ c. search rules)
+    (λ c. search rules)
+    -- loop-i-preserved
+    (λ c.
+    (omega arith, place-next _ _ _ c.loop-i.invariant.1 (sym c.is_kept.ensures ∙ c.if-is_kept.false)))
     -- returns
     (λ c.
-    let t = c.before.before in
-    place_here _ _ _ t.before.loop.invariant.1 _ t.loop-test.true (sym c.before.is-kept.ensures ∙ c.if1.true))
-    (λ c. search rules)
-    (λ c. search rules)
-    -- loop-again
-    (λ c.
-    let t = c.before.before in
-    (omega arith, place-next _ _ _ t.before.loop.invariant.1 (sym c.before.is-kept.ensures ∙ c.if1.false)))
-    -- returns-2
-    (λ c.
-    let e : c.before.loop.i ≡ c.before.before.before.args.count = omega arith in
-    rw e at c.before.loop.invariant.1))
+    let e : c.loop-i.i ≡ c.args.count = omega arith in
+    rw e at c.loop-i.invariant.1))

@@ -16,13 +16,10 @@ put_list_spec =
     (λ c. search rules)
     (λ c. search rules)
     (λ c. search rules)
-    -- write-numbers-requires
+    -- write_numbers-requires
     (λ c κs.
-    let b = c.before.before.before.before in
-    let s = b.before.before.before.before in
-    rw sub-zero (s.requires.1.0, omega (arith, s.requires.1.1, b.put_byte.ensures.ends, put-length b.put_byte.ensures)))
+    rw sub-zero (c.requires.1.0, omega (arith, c.requires.1.1, c.put_byte-behind.ensures.ends, put-length c.put_byte-behind.ensures)))
     (λ c. search rules)
     -- returns
     (λ c.
-    let w = c.before.before in
-    put_then w.before.before.before.before.before.put_byte.ensures (rw sub-zero at w.write-numbers.ensures)))
+    put_then c.put_byte-behind.ensures (rw sub-zero at c.write_numbers.ensures)))

@@ -21,111 +21,96 @@ use Rattle.moves.proofs.to_new.store.Statement.{statement}
 use Rattle.moves.proofs.to_new.store.Tie as tie
 
 -- the length of the list, and of the whole
-list-here : (c : tie.After-numbers-length) → let a = c.before.before.before.before.before.before.before.args in
-    c.numbers-length.result ≡ length (numerals_of (take (4 * a.layouts) a.kept.now))
-list-here c = rw sub-zero at c.numbers-length.ensures
+list-here : (c : tie.After-numbers_length) → let a = c.args in
+    c.numbers_length.result ≡ length (numerals_of (take (4 * a.layouts) a.kept.now))
+list-here c = rw sub-zero at c.numbers_length.ensures
 
-long-here : (c : tie.After-numbers-length) → let a = c.before.before.before.before.before.before.before.args in
-    1 + c.numbers-length.result + a.total ≡ length (to_new a.dump.now)
+long-here : (c : tie.After-numbers_length) → let a = c.args in
+    1 + c.numbers_length.result + a.total ≡ length (to_new a.dump.now)
 long-here c =
-    let s = c.before.before.before.before.before.before.before in
-    omega (arith, list-here c, new-long _ _ s.requires.1 c.before.before.if1.false)
+    omega (arith, list-here c, new-long _ _ c.requires.1 c.if-layouts-gt-LAYOUTS_MOST.false)
 
 -- the numbers of the list are small
-small-here : (c : tie.Else1) → let a = c.before.before.before.before.before.args in Below (2 ^ 63) (take (4 * a.layouts) a.kept.now)
+small-here : (c : tie.Else-layouts-gt-LAYOUTS_MOST) → let a = c.args in Below (2 ^ 63) (take (4 * a.layouts) a.kept.now)
 small-here c =
-    let d = c.before.before.before.before in
-    new-small _ _ d.before.requires.1 c.if1.false (λ i h. omega (arith, d.shared-slice-known.given i))
+    new-small _ _ c.requires.1 c.if-layouts-gt-LAYOUTS_MOST.false (λ i h. omega (arith, c.shared_slice_known-1.given i))
 
 -- it is far from 2^64
-long-fits : (c : tie.After-numbers-length) → let a = c.before.before.before.before.before.before.before.args in
-    1 + c.numbers-length.result + a.total ≤ 3100000
+long-fits : (c : tie.After-numbers_length) → let a = c.args in
+    1 + c.numbers_length.result + a.total ≤ 3100000
 long-fits c =
-    let s = c.before.before.before.before.before.before.before in
-    let front = take (4 * s.args.layouts) s.args.kept.now in
+    let front = take (4 * c.args.layouts) c.args.kept.now in
     omega (
       arith,
       list-here c,
       numerals-few front,
-      length-take (4 * s.args.layouts) s.args.kept.now,
-      s.requires.1.keeps.long,
-      s.requires.1.few,
-      entered-short Old _ _ _ s.requires.0,
+      length-take (4 * c.args.layouts) c.args.kept.now,
+      c.requires.1.keeps.long,
+      c.requires.1.few,
+      entered-short Old _ _ _ c.requires.0,
     )
 
 -- there is room
-room-here : (c : tie.Else2) → let a = c.before.before.before.before.before.before.before.before.before.args in
+room-here : (c : tie.Else-refusal-ne0) → let a = c.args in
     length (to_new a.dump.now) ≤ length a.out.now
 room-here c =
     let n = c.before.before in
-    let e = n.before.before in
-    let s = e.before.before.before.before.before in
-    move-room _ 13 _ (to_new s.args.dump.now) s.args.out.now s.requires.1.whole (not-many _ _ s.requires.1 e.if1.false) _ _ (long-here n)
-    c.before.refuse-length.ensures c.if2.false
+    move-room _ 13 _ (to_new n.args.dump.now) n.args.out.now n.requires.1.whole (not-many _ _ n.requires.1 n.if-layouts-gt-LAYOUTS_MOST.false) _ _ (long-here n)
+    c.refuse_length-refusal.ensures c.if-refusal-ne0.false
 
 -- behind the list too
-rest-room : (c : tie.After-put-list) → let a = c.before.before.before.before.before.before.before.before.before.before.before.args in
-    c.put-list.result + length (numbered_by (kept_layouts a.layouts a.kept.now) a.dump.now) ≤ length a.out.now
+rest-room : (c : tie.After-put_list-first) → let a = c.args in
+    c.put_list-first.result + length (numbered_by (kept_layouts a.layouts a.kept.now) a.dump.now) ≤ length a.out.now
 rest-room c =
-    let e = c.before.before.before.before.before.before in
-    let s = e.before.before.before.before.before in
-    let a = s.args in
-    let made = ap length (new-made _ _ s.requires.1 e.if1.false) in
+    let a = c.args in
+    let made = ap length (new-made _ _ c.requires.1 c.if-layouts-gt-LAYOUTS_MOST.false) in
     let front = a.layouts ∷ numerals_of (take (4 * a.layouts) a.kept.now) in
     let both = length-append front (numbered_by (kept_layouts a.layouts a.kept.now) a.dump.now) in
-    omega (arith, c.put-list.ensures.ends, made, room-here c.before.before, both)
+    omega (arith, c.put_list-first.ensures.ends, made, room-here c.before.before, both)
 
 pub store_spec : {M : Type 1} → statement M
 store_spec =
     tie.close
     (tie.spec
-    -- returns
+    -- returns-then-layouts-gt-LAYOUTS_MOST
     (λ c.
-    let s = c.before.before.before.before.before in
-    moves-new _ _ (move-own _ _ _ _ _ s.requires.1.whole (too_many _ _ s.requires.1 c.if1.true)))
+    moves-new _ _ (move-own _ _ _ _ _ c.requires.1.whole (too_many _ _ c.requires.1 c.if-layouts-gt-LAYOUTS_MOST.true)))
     (λ c. search rules)
     (λ c. search rules)
     (λ c. search rules)
     (λ c. search rules)
-    -- numbers-length-requires
+    -- numbers_length-requires
     (λ c κs.
-    let a = c.before.before.before.before.before.before.args in
+    let a = c.args in
     rw sub-zero (small-here c.before, omega (arith, length-take (4 * a.layouts) a.kept.now)))
-    -- add-long
+    -- overflow_add-long
     (λ c. omega (arith, long-fits c))
-    -- add-long-2
+    -- overflow_add-long-2
     (λ c. omega (arith, long-fits c))
     (λ c κs. search rules)
-    -- returns-2
+    -- returns-then-refusal-ne0
     (λ c.
     let n = c.before.before in
-    let e = n.before.before in
-    let s = e.before.before.before.before.before in
-    let passes = not-many _ _ s.requires.1 e.if1.false in
-    moves-new _ _ (move-refused _ _ _ _ _ s.requires.1.whole passes _ _ (long-here n) c.before.refuse-length.ensures c.if2.true))
-    -- put-list-requires
+    let passes = not-many _ _ n.requires.1 n.if-layouts-gt-LAYOUTS_MOST.false in
+    moves-new _ _ (move-refused _ _ _ _ _ n.requires.1.whole passes _ _ (long-here n) c.refuse_length-refusal.ensures c.if-refusal-ne0.true))
+    -- put_list-first-requires
     (λ c κs.
     let n = c.before.before.before in
     let e = n.before.before in
-    let s = e.before.before.before.before.before in
-    ((e.if1.false, s.requires.1.keeps.long), (small-here e, omega (arith, room-here c.before, long-here n, list-here n))))
-    -- put-records-requires
+    ((e.if-layouts-gt-LAYOUTS_MOST.false, e.requires.1.keeps.long), (small-here e, omega (arith, room-here c.before, long-here n, list-here n))))
+    -- put_records-requires
     (λ c κs.
     let l = c.before.before.before in
-    let e = l.before.before.before.before.before.before in
-    let s = e.before.before.before.before.before in
-    (s.requires.0, e.if1.false, s.requires.1.keeps.long, omega (arith, put-length l.put-list.ensures, rest-room l)))
+    (l.requires.0, l.if-layouts-gt-LAYOUTS_MOST.false, l.requires.1.keeps.long, omega (arith, put-length l.put_list-first.ensures, rest-room l)))
     (λ c. search rules)
-    -- returns-3
+    -- returns
     (λ c.
     let p = c.before.before in
     let l = p.before.before.before.before in
     let i = l.before.before in
     let n = i.before.before in
-    let e = n.before.before in
-    let s = e.before.before.before.before.before in
-    let rest = p.put-records.ensures s.requires.1.whole (omega (arith, put-length l.put-list.ensures, rest-room l)) in
-    let both = put_then l.put-list.ensures rest in
-    let passes = not-many _ _ s.requires.1 e.if1.false in
-    moves-new _ _ (move-stored _ _ _ _ _ s.requires.1.whole passes _ _ (long-here n) i.before.refuse-length.ensures i.if2.false
-    (rw (new-made _ _ s.requires.1 e.if1.false) both))))
+    let rest = p.put_records.ensures n.requires.1.whole (omega (arith, put-length l.put_list-first.ensures, rest-room l)) in
+    let both = put_then l.put_list-first.ensures rest in
+    let passes = not-many _ _ n.requires.1 n.if-layouts-gt-LAYOUTS_MOST.false in
+    moves-new _ _ (move-stored _ _ _ _ _ n.requires.1.whole passes _ _ (long-here n) i.refuse_length-refusal.ensures i.if-refusal-ne0.false
+    (rw (new-made _ _ n.requires.1 n.if-layouts-gt-LAYOUTS_MOST.false) both))))

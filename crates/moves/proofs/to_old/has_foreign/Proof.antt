@@ -10,34 +10,32 @@ use Rattle.moves.proofs.ToOld.{foreign-here, foreign_next, foreign-none}
 use Rattle.moves.proofs.to_old.has_foreign.Statement.{statement}
 use Rattle.moves.proofs.to_old.has_foreign.Tie as tie
 
-abbrev invariant-loop : tie.invariant-loop
-invariant-loop dump places i₀ i = (i ≤ length places) × (foreign (layouts_at dump places) ≡ foreign (layouts_at dump (drop i places)))
+abbrev invariant-loop-i : tie.invariant-loop-i
+invariant-loop-i dump places i₀ i = (i ≤ length places) × (foreign (layouts_at dump places) ≡ foreign (layouts_at dump (drop i places)))
 
-abbrev decreases-loop : tie.decreases-loop
-decreases-loop dump places i₀ i = length places - i
+abbrev decreases-loop-i : tie.decreases-loop-i
+decreases-loop-i dump places i₀ i = length places - i
 
 pub has_foreign_spec : {M : Type 1} → statement M
 has_foreign_spec =
     tie.close
     (tie.spec
-    invariant-loop
-    decreases-loop
-    -- loop-holds
+    invariant-loop-i
+    decreases-loop-i
+    -- loop-i-init
     (λ c. (omega arith, refl))
     (λ c. search rules)
     (λ c. search rules)
-    -- cast-shape-at
-    (λ c. omega (arith, c.shared-slice-known3.given c.before.before.loop.i))
+    -- overflow_cast-places
+    (λ c. omega (arith, c.shared_slice_known-in-loop-i-1.given c.loop-i.i))
     (λ c κs. search rules)
+    -- returns-then-shape-gt0
+    (λ c.
+    sym (c.loop-i.invariant.1 ∙ foreign-here _ _ _ c.loop-i-test.true c.shape_at-shape.ensures (omega arith)))
+    (λ c. search rules)
+    (λ c. search rules)
+    -- loop-i-preserved
+    (λ c.
+    (omega arith, c.loop-i.invariant.1 ∙ foreign_next _ _ _ c.loop-i-test.true c.shape_at-shape.ensures (omega arith)))
     -- returns
-    (λ c.
-    let t = c.before.before.before.before in
-    sym (t.before.loop.invariant.1 ∙ foreign-here _ _ _ t.loop-test.true c.before.before.shape_at.ensures (omega arith)))
-    (λ c. search rules)
-    (λ c. search rules)
-    -- loop-again
-    (λ c.
-    let t = c.before.before.before.before in
-    (omega arith, t.before.loop.invariant.1 ∙ foreign_next _ _ _ t.loop-test.true c.before.before.shape_at.ensures (omega arith)))
-    -- returns-2
-    (λ c. sym (c.before.loop.invariant.1 ∙ foreign-none _ _ _ c.loop-test.false)))
+    (λ c. sym (c.loop-i.invariant.1 ∙ foreign-none _ _ _ c.loop-i-test.false)))

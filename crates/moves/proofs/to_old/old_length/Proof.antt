@@ -7,9 +7,9 @@ pub old_length_spec : {M : Type 1} → statement M
 old_length_spec =
     tie.close
     (tie.spec
-    -- slice-aggregate-record-length
+    -- slice_bounds-record_length-end
     (λ c. search rules)
-    -- record-length-requires
+    -- record_length-requires
     (λ c κs. search rules)
     -- returns
-    (λ c. c.record-length.ensures))
+    (λ c. c.record_length.ensures))

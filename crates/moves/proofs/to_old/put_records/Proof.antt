@@ -22,77 +22,71 @@ use Rattle.moves.proofs.ToOld.{none-says, old-said, old-head, put_same}
 use Rattle.moves.proofs.to_old.put_records.Statement.{statement}
 use Rattle.moves.proofs.to_old.put_records.Tie as tie
 
-abbrev invariant-loop : tie.invariant-loop
-invariant-loop dump places start out₀ at₀ place₀ kept₀ out at place kept =
+abbrev invariant-loop-head : tie.invariant-loop-head
+invariant-loop-head dump places start out₀ at₀ place₀ kept₀ out at place kept =
     Filling own_layouts [] New dump out₀ 0 out at place × SaysOld (source_of New dump places) kept
 
-abbrev decreases-loop : tie.decreases-loop
-decreases-loop dump places start out₀ at₀ place₀ kept₀ out at place kept = length dump - at
+abbrev decreases-loop-head : tie.decreases-loop-head
+decreases-loop-head dump places start out₀ at₀ place₀ kept₀ out at place kept = length dump - at
 
 -- the record at the place
-here : (c : tie.After-head invariant-loop decreases-loop) → let l = c.before.before.before in
-    let a = l.before.before.before.before.before.args in
-    step New a.dump.now l.loop.at ≡ taken (head_record (source_of New a.dump.now a.places.now) c.head.given.0.0)
-here c = at-record New _ _ _ c.before.before.locate.ensures c.head.given.1
+here : (c : tie.In-Record invariant-loop-head decreases-loop-head) → let a = c.args in
+    step New a.dump.now c.loop-head.at ≡ taken (head_record (source_of New a.dump.now a.places.now) c.in-Record.head)
+here c = at-record New _ _ _ c.locate.ensures c.in-Record.is
 
 -- the numbers that it is stored with
-said_here : (c : tie.After-renew invariant-loop decreases-loop) →
-    let h = c.before.before in
-    let a = h.before.before.before.before.before.before.before.before.args in
-    said_head h.head.given.0.0.serial c.renew.result
-    ≡ old_head (head_record (source_of New a.dump.now a.places.now) h.head.given.0.0)
-said_here c = old-head _ _ c.before.before.head.given.0.0 c.renew.result c.renew.ensures.1 c.renew.ensures.0
+said_here : (c : tie.After-renew-kept invariant-loop-head decreases-loop-head) →
+    let a = c.args in
+    said_head c.in-Record.head.serial c.renew-kept.result
+    ≡ old_head (head_record (source_of New a.dump.now a.places.now) c.in-Record.head)
+said_here c = old-head _ _ c.in-Record.head c.renew-kept.result c.renew-kept.ensures.1 c.renew-kept.ensures.0
 
 pub put_records_spec : {M : Type 1} → statement M
 unfolding entry_head cells_of
 put_records_spec =
     tie.close
     (tie.spec
-    invariant-loop
-    decreases-loop
-    -- say-none-requires
+    invariant-loop-head
+    decreases-loop-head
+    -- say_none-kept-requires
     (λ c κs. search rules)
-    -- loop-holds
+    -- loop-head-init
     (λ c.
-    let s = c.before.before.before.before in
-    (filling-begin _ _ _ _ _ _ s.requires _ 0 (omega arith), subst (SaysOld _) (sym c.say-none.ensures) (none-says _ (places-few New _ _ (omega arith)))))
+    (filling-begin _ _ _ _ _ _ c.requires _ 0 (omega arith), subst (SaysOld _) (sym c.say_none-kept.ensures) (none-says _ (places-few New _ _ (omega arith)))))
     -- locate-requires
-    (λ c κs. let s = c.before.before.before.before.before in record { start = s.args.start; opens = s.requires })
+    (λ c κs. record { start = c.args.start; opens = c.requires })
     (λ c. search rules)
-    -- renew-requires
-    (λ c κs. c.before.before.before.before.loop.invariant.1)
-    -- put-old-requires
+    -- renew-kept-requires
+    (λ c κs. c.loop-head.invariant.1)
+    -- put_old-place-requires
     (λ c κs.
     let h = c.before.before.before in
-    let l = h.before.before.before in
-    let s = l.before.before.before.before in
-    let low = head-below New _ _ _ _ _ (λ i h. omega (arith, s.shared-slice-known.given i)) s.before.requires (here h) in
-    (subst (Below (2 ^ 63)) (sym (said_here c.before)) low, (step-forward New _ _ _ (here h)).2, l.loop.invariant.0.inside))
-    -- add-at
+    let l = h.before in
+    let low = head-below New _ _ _ _ _ (λ i h. omega (arith, l.shared_slice_known-1.given i)) l.requires (here h) in
+    (subst (Below (2 ^ 63)) (sym (said_here c.before)) low, (step-forward New _ _ _ (here h)).2, l.loop-head.invariant.0.inside))
+    -- overflow_add-at
     (λ c. omega (arith, step-forward New _ _ _ (here c.before.before.before.before.before.before.before)))
-    -- loop-less
+    -- loop-head-smaller
     (λ c. omega (arith, step-forward New _ _ _ (here c.before.before.before.before.before.before.before)))
-    -- loop-again
+    -- loop-head-preserved
     (λ c.
     let p = c.before.before.before in
     let h = p.before.before.before.before in
-    let d = h.before.before.before.before.before.before.before.before.args.dump.now in
-    let made = put_same (cells_at d h.head.given.0.0) (said_here p.before.before) p.put-old.ensures in
-    (filling-next h.before.before.before.loop.invariant.0 _ (here h) made, p.before.before.renew.ensures.1))
+    let d = h.args.dump.now in
+    let made = put_same (cells_at d h.in-Record.head) (said_here p.before.before) p.put_old-place.ensures in
+    (filling-next h.loop-head.invariant.0 _ (here h) made, p.renew-kept.ensures.1))
     (λ c. search rules)
-    -- same-length
-    (λ c. c.before.before.before.loop.invariant.0.same)
-    -- returns
+    -- shape_of-out-in-End
+    (λ c. c.loop-head.invariant.0.same)
+    -- returns-in-End
     (λ c w h.
-    let l = c.before.before.before in
-    let end = at-end New _ _ _ c.before.before.locate.ensures c.enum_told.given.1 in
-    let said = old-said l.before.before.before.before.before.args.dump.now in
-    rw said at (filling-end l.loop.invariant.0 end (omega (arith, h, ap length said))))
+    let end = at-end New _ _ _ c.locate.ensures c.in-End.is in
+    let said = old-said c.args.dump.now in
+    rw said at (filling-end c.loop-head.invariant.0 end (omega (arith, h, ap length said))))
     (λ c. search rules)
-    -- same-length-2
-    (λ c. c.before.before.before.loop.invariant.0.same)
-    -- returns-2
+    -- shape_of-out-in-Stop
+    (λ c. c.loop-head.invariant.0.same)
+    -- returns-in-Stop
     (λ c w h.
-    let l = c.before.before.before in
-    rw (old-said _) at (filling-stop l.loop.invariant.0 w c.enum-told2.given.0.0
-    (at-stop New _ _ _ c.before.before.locate.ensures c.enum-told2.given.1))))
+    rw (old-said _) at (filling-stop c.loop-head.invariant.0 w c.in-Stop.field-0
+    (at-stop New _ _ _ c.locate.ensures c.in-Stop.is))))

@@ -9,11 +9,11 @@ pub renew_spec : {M : Type 1} → statement M
 renew_spec =
     tie.close
     (tie.spec
-    -- returns
-    (λ c. (c.if1.true, c.before.before.before.before.before.requires))
-    -- shape-said-requires
+    -- returns-then-kept-said
+    (λ c. (c.if-kept-said.true, c.requires))
+    -- shape_said-shape-requires
     (λ c κs. search rules)
-    -- array-read-t11
+    -- bounds-v-0
     (λ c. search rules)
-    -- returns-2
-    (λ c. (refl, says-old _ _ _ c.before.shape-said.ensures)))
+    -- returns
+    (λ c. (refl, says-old _ _ _ c.shape_said-shape.ensures)))

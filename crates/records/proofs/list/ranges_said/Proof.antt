@@ -10,12 +10,12 @@ ranges_said_spec =
     tie.close
     (tie.spec
     (λ c. search rules)
-    -- returns
-    (λ c. said-one _ c.if1.true)
+    -- returns-then-numbers-ne2
+    (λ c. said-one _ c.if-numbers-ne2.true)
     (λ c. search rules)
-    -- returns-2
-    (λ c. said-low _ c.before.before.if1.false c.if2.true)
-    -- returns-3
-    (λ c. said-high _ c.before.before.before.if1.false c.if3.true)
-    -- returns-4
-    (λ c. said-listed _ c.before.before.before.if1.false (omega arith) (omega arith)))
+    -- returns-then-t-lt2
+    (λ c. said-low _ c.if-numbers-ne2.false c.if-t-lt2.true)
+    -- returns-then-t-gt16
+    (λ c. said-high _ c.if-numbers-ne2.false c.if-t-gt16.true)
+    -- returns
+    (λ c. said-listed _ c.if-numbers-ne2.false (omega arith) (omega arith)))

@@ -13,33 +13,33 @@ read_layout_spec =
     (λ c κs. search rules)
     (λ c. search rules)
     (λ c. search rules)
+    -- returns-in_default
+    (λ c.
+    let n = c.before.before in
+    there-cut _ _ _ _ n.requires n.read_numbers.ensures c.in_default.is)
+    (λ c κs. search rules)
+    -- returns-then-count-eq0
+    (λ c.
+    let n = c.before.before.before.before.before in
+    let said = c.ranges_said-count.ensures in
+    there-uncounted _ _ _ _ n.requires n.read_numbers.ensures c.in-Read.is (said.none (omega arith)))
+    (λ c κs. search rules)
+    (λ c. search rules)
+    (λ c. search rules)
+    (λ c. search rules)
+    -- returns-in_default-read_ranges
+    (λ c.
+    let n = c.before.before.before.before.before.before.before.before.before.before in
+    let w = c.before.before.before.before.before.before in
+    ranges-cut _ _ _ _ n.requires n.read_numbers.ensures w.in-Read.is
+    _ w.ranges_said-count.ensures (omega arith) _ c.read_ranges.ensures c.in_default-read_ranges.is)
+    (λ c. search rules)
+    (λ c. search rules)
+    (λ c. search rules)
+    (λ c. search rules)
     -- returns
     (λ c.
-    let n = c.before.before.before in
-    there-cut _ _ _ _ n.before.before.before.before.requires n.read-numbers.ensures c.enum_told.given.1)
-    (λ c κs. search rules)
-    -- returns-2
-    (λ c.
-    let n = c.before.before.before.before.before.before.before in
-    let said = c.before.ranges-said.ensures in
-    there-uncounted _ _ _ _ n.before.before.before.before.requires n.read-numbers.ensures c.before.before.before.before.end.given.1 (said.none (omega arith)))
-    (λ c κs. search rules)
-    (λ c. search rules)
-    (λ c. search rules)
-    (λ c. search rules)
-    -- returns-3
-    (λ c.
-    let n = c.before.before.before.before.before.before.before.before.before.before.before.before.before in
-    let w = c.before.before.before.before.before.before.before in
-    ranges-cut _ _ _ _ n.before.before.before.before.requires n.read-numbers.ensures w.before.before.before.end.given.1
-    _ w.ranges-said.ensures (omega arith) _ c.before.before.before.before.read-ranges.ensures c.enum-told2.given.1)
-    (λ c. search rules)
-    (λ c. search rules)
-    (λ c. search rules)
-    (λ c. search rules)
-    -- returns-4
-    (λ c.
-    let n = c.before.before.before.before.before.before.before.before.before.before.before.before.before.before in
-    let w = c.before.before.before.before.before.before.before.before in
-    there-whole _ _ _ _ n.before.before.before.before.requires n.read-numbers.ensures w.before.before.before.end.given.1
-    _ w.ranges-said.ensures (omega arith) _ c.before.before.before.before.before.read-ranges.ensures c.before.behind.given.1 (omega arith)))
+    let n = c.before.before.before.before.before.before.before.before.before.before in
+    let w = c.before.before.before.before.before.before in
+    there-whole _ _ _ _ n.requires n.read_numbers.ensures w.in-Read.is
+    _ w.ranges_said-count.ensures (omega arith) _ c.read_ranges.ensures c.in-Read-read_ranges.is (omega arith)))

@@ -14,18 +14,18 @@ read_list_spec =
     (λ c κs. search rules)
     (λ c. search rules)
     (λ c. search rules)
-    -- returns
-    (λ c. record { reads = count_cut _ _ c.before.before.before.read-numbers.ensures c.enum_told.given.1; few = tt; long = c.before.before.before.before.before.before.requires.1 })
+    -- returns-in_default
+    (λ c. record { reads = count_cut _ _ c.read_numbers.ensures c.in_default.is; few = tt; long = c.requires.1 })
     (λ c. search rules)
-    -- returns-2
+    -- returns-then-count
+    (λ c.
+    let n = c.before.before.before in
+    record { reads = count-over _ _ n.read_numbers.ensures c.in-Read.is (omega arith); few = tt; long = n.requires.1 })
+    -- read_places-requires
+    (λ c κs. let s = c.before.before.before.before.before.before.before in (s.requires.0, omega arith, s.requires.1))
+    -- returns
     (λ c.
     let n = c.before.before.before.before.before in
-    record { reads = count-over _ _ n.read-numbers.ensures c.before.before.end.given.1 (omega arith); few = tt; long = n.before.before.before.requires.1 })
-    -- read-places-requires
-    (λ c κs. let s = c.before.before.before.before.before.before.before.before.before in (s.requires.0, omega arith, s.requires.1))
-    -- returns-3
-    (λ c.
-    let n = c.before.before.before.before.before.before.before in
-    let told = count-within _ _ n.read-numbers.ensures c.before.before.before.before.end.given.1 (omega arith) in
-    let r = c.read-places.ensures in
+    let told = count-within _ _ n.read_numbers.ensures c.in-Read.is (omega arith) in
+    let r = c.read_places.ensures in
     record { reads = r.reads ∙ told; few = r.few; long = r.long }))

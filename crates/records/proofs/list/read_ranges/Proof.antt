@@ -15,4 +15,4 @@ read_ranges_spec =
     (λ c κs. search rules)
     (λ c. search rules)
     -- returns
-    (λ c. ranges-read _ _ _ _ _ (omega arith) (omega arith) c.before.before.read-numbers.ensures))
+    (λ c. ranges-read _ _ _ _ _ (omega arith) (omega arith) c.read_numbers.ensures))

@@ -14,7 +14,7 @@ shape_at_spec =
     (λ c. search rules)
     (λ c. search rules)
     (λ c κs. search rules)
-    -- returns
-    (λ c. shape-whole _ _ _ _ _ c.before.outline.given.1 c.before.before.before.before.read-layout.ensures)
-    -- returns-2
-    (λ c. c.no-layout.ensures ∙ shape-broken _ _ _ c.before.enum_told.given.1 c.before.before.before.before.read-layout.ensures))
+    -- returns-in-Whole
+    (λ c. shape-whole _ _ _ _ _ c.in-Whole.is c.read_layout.ensures)
+    -- returns-in-Broken
+    (λ c. c.no_layout.ensures ∙ shape-broken _ _ _ c.in-Broken.is c.read_layout.ensures))
