@@ -1,5 +1,5 @@
 -- The answer of a read of two fields, from what its calls have found.
-use Prim.Native.Nat.{ℕ, ◌^◌, ◌≤◌, ◌<◌}
+use Prim.Native.Nat.{ℕ, ◌-◌, ◌^◌, ◌≤◌, ◌<◌}
 use mathlib.Core.Path.{◌≡◌, sym, ap, ◌∙◌}
 use mathlib.Core.Logic.{◌≢◌}
 use mathlib.Core.Bool.{true, false}
@@ -10,7 +10,7 @@ use lib.ListN.{length, replicate}
 use borrow.Author.Tests.{eq-eqb, ne_eqb}
 use Rattle.code.specs.declared.Shape.{Shape}
 use Rattle.code.specs.declared.Pair.{Pair}
-use Rattle.code.specs.Calls.{answer, filled, layout_fields, layout_reply, field_read, generation, holds, left, read_refusal, read_reply}
+use Rattle.code.specs.Calls.{refusal, answer, filled, layout_fields, layout_reply, field_read, generation, holds, left, read_refusal, read_reply}
 use Rattle.code.specs.Pair.{first_shape, unequal, pair_holds, pair_read_reply}
 use Rattle.code.proofs.LayoutCall.{bounded}
 use Rattle.code.proofs.ReadCall.{read_made}

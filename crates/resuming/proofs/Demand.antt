@@ -1,20 +1,20 @@
 -- Document 02, §9, of the calls: over all answers and cells at exit that their promises allow.
-use Prim.Native.Nat.{ℕ, suc, ◌+◌, ◌-◌, ◌≤◌, ◌<◌}
+use Prim.Native.Nat.{ℕ, zero, suc, ◌+◌, ◌-◌, ◌≤◌, ◌<◌}
 use mathlib.Core.Path.{◌≡◌, refl, sym, ap, ◌∙◌}
 use mathlib.Core.Logic.{◌⊎◌, inl, inr, ◌↔◌, ◌≢◌}
-use mathlib.Core.Bool.{false}
+use mathlib.Core.Bool.{Bool, true, false}
 use mathlib.Core.List.{List, [], ◌∷◌, Memᴰ}
 use native.Mathlib.Omega.{arith}
 use native.Mathlib.Decide.{ℕ_discrete}
 use native.Mathlib.Nat.{le_refl, sub-zero}
-use lib.ListN.{length, get_or}
+use lib.ListN.{length, get_or, drop}
 use lib.Dec.{leb}
 use Rattle.code.specs.declared.Shape.{Shape}
 use Rattle.code.specs.Shape.{first_of, ranges_of, order_of, counts_of, code_of}
 use Rattle.code.specs.Code.{erased, width}
 use Rattle.code.specs.Cells.{wit, listed, ones}
 use Rattle.code.specs.Field as Field
-use Rattle.code.specs.Calls.{groups_in, answer, leaves, filled, layout_refusal, field_read, read_reply, write_refusal, write_leaves, refusal_in, generation_in, turned_in, turned_by}
+use Rattle.code.specs.Calls.{groups_in, answer, leaves, filled, layout_refusal, field_read, read_reply, write_refusal, write_reply, write_leaves, refusal_in, generation_in, turned_in, turned_by}
 use Rattle.code.specs.Resume.{fresh_groups, bits_at, resume_refusal, resume_reply, resume_leaves, resume_fields}
 use Rattle.code.proofs.Wits.{Bytes}
 use Rattle.code.proofs.Tests.{le-or-lt, clash}

@@ -1,5 +1,5 @@
 -- The replies of resume and the cells that it leaves, from what its calls have found.
-use Prim.Native.Nat.{ℕ, ◌+◌, ◌*◌, ◌-◌, ◌^◌, ◌≤◌, ◌<◌}
+use Prim.Native.Nat.{ℕ, zero, suc, ◌+◌, ◌*◌, ◌-◌, ◌^◌, ◌≤◌, ◌<◌}
 use mathlib.Core.Path.{◌≡◌, refl, sym, ap, ap₂, ◌∙◌}
 use mathlib.Core.Logic.{◌≢◌}
 use mathlib.Core.Bool.{Bool, true, false, cond, not}
@@ -31,8 +31,9 @@ use Rattle.layout.proofs.Planning.{plan-refused}
 use Rattle.reading.specs.Answers.{SoundCells, held_groups, field_groups, Looked}
 use Rattle.reading.proofs.Looking.{sound-width, loadable, width}
 use Rattle.writing.specs.declared.Held.{Held}
-use Rattle.writing.specs.Answers.{laid_by, wits_of, Due, Carries, Takes}
+use Rattle.writing.specs.Answers.{after_in, laid_by, wits_of, Due, Carries, Takes}
 use Rattle.writing.proofs.Laying.{takes, laid-after}
+use Rattle.reporting.specs.Report.{flags_of}
 use Rattle.resuming.specs.declared.Aim.TheVariants.{At, Refused}
 use Rattle.resuming.specs.Answers.{aim_on, reported}
 

@@ -1,9 +1,13 @@
 -- `many::field_bytes` meets its contract. Assumes nothing.
+use Prim.Native.Nat.{◌*◌, ◌≤◌}
+use mathlib.Core.Path.{◌≡◌}
 use native.Mathlib.Omega.{arith}
 use native.Mathlib.Nat.{mul-le-mul}
 use borrow.Author.Rules.{rules}
+use lib.ListN.{get_or}
 use Rattle.code.specs.Shape.{width_of}
 use Rattle.code.specs.Many.{field_bytes}
+use Rattle.layout.specs.Plan.{Granted}
 use Rattle.many.proofs.field_bytes.Statement.{statement}
 use Rattle.many.proofs.field_bytes.Tie as tie
 

@@ -52,7 +52,7 @@ write_fields_spec =
     record { fits = omega (arith, a.well_formed, within a.args.size c.loop-j-test.true a.requires.0.3) })
     -- mul-write-one-2
     (λ c. search rules)
-    -- bounds-numbers-j
+    -- shared-slice-read-write-one
     (λ c. search rules)
     -- write-one-requires
     (λ c κs. let a = c in
@@ -79,11 +79,11 @@ write_fields_spec =
     (λ c. search rules)
     -- loop-j-preserved
     again
-    -- enum_known-refusal
+    -- enum-known-refusal
     (λ c. search rules)
-    -- flat_refusal-told-requires
+    -- flat-refusal-requires
     (λ c κs. search rules)
-    -- shape_of-cells-in-Refused
+    -- same-length
     (λ c.
     let w = c.write_one.ensures in
     let l = c.loop-j in

@@ -8,19 +8,19 @@ pub add_second_spec : {M : Type 1} → statement M
 add_second_spec =
     tie.close
     (tie.spec
-    -- lay_second-refusal-requires
+    -- lay-second-requires
     (λ c κs. search rules)
     -- returns-then-refusal-ne0
     (λ c. second-no-layout c.args.p _ _ _ c.lay_second-refusal.ensures c.if-refusal-ne0.true)
     -- second-outline-requires
     (λ c κs. search rules)
-    -- see_field-sight-requires
+    -- see-field-requires
     (λ c κs.
     let l = c in
     second-granted l.requires.0 _ c.second_outline.ensures l.lay_second-refusal.ensures c.if-refusal-ne0.false)
     -- enum-known-sight
     (λ c. search rules)
-    -- add_up-requires
+    -- add-up-requires
     (λ c κs.
     let k = c in
     let o = k in

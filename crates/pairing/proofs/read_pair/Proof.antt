@@ -12,15 +12,15 @@ read_pair_spec =
     (λ c. pair-18 c.args.p _ _ c.if-p.true)
     -- array-write-v
     (λ c. search rules)
-    -- first_outline-outline-requires
+    -- first-outline-requires
     (λ c κs. search rules)
-    -- lay_into-refusal-requires
+    -- lay-into-requires
     (λ c κs. search rules)
-    -- read_by-reading-requires
+    -- read-by-requires
     (λ c κs. search rules)
-    -- enum_known-reading
+    -- enum-known-reading
     (λ c. search rules)
-    -- add_second-requires
+    -- add-second-requires
     (λ c κs.
     let d = c in
     let r = d in

@@ -21,7 +21,7 @@ see_field_spec =
     (tie.spec
     -- order-requires
     (λ c κs. search rules)
-    -- bounds-h-0
+    -- element-copy-out-is-sound
     (λ c. search rules)
     -- is-sound-requires
     (λ c κs. let G = c.requires in (G.bounds.m-high, G.small 0))

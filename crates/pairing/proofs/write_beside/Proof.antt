@@ -12,7 +12,7 @@ unfolding completing first_due second_due
 write_beside_spec =
     tie.close
     (tie.spec
-    -- lay_second-refusal-requires
+    -- lay-second-requires
     (λ c κs. search rules)
     -- returns-then-refusal-ne0
     (λ c.
@@ -23,7 +23,7 @@ write_beside_spec =
     second-no-layout a.p a.due.number a.first.now a.second.now e.requires.0.same F.0 l.lay_second-refusal.ensures c.if-refusal-ne0.true)
     -- second-outline-requires
     (λ c κs. search rules)
-    -- see_field-sight-requires
+    -- see-field-requires
     (λ c κs.
     let o = c in
     let i = o in
@@ -49,9 +49,9 @@ write_beside_spec =
     (λ c κs. first-granted c.requires.0 _ c.first_outline.ensures)
     -- tell-written-requires
     (λ c κs. search rules)
-    -- shape_of-first-then-due-p
+    -- same-length
     (λ c. search rules)
-    -- shape_of-second-then-due-p
+    -- same-length-2
     (λ c. search rules)
     -- returns-then-due-p
     (λ c.
@@ -96,16 +96,16 @@ write_beside_spec =
     second-due a.p a.due.number a.first.now a.second.now e.requires.0.same F.0 S.0 _ F.2)
     -- second-outline-requires-2
     (λ c κs. search rules)
-    -- write_granted-requires-in-Seen
+    -- write-granted-requires-2
     (λ c κs.
     let i = c in
     let l = i in
     second-granted l.requires.0 _ c.second_outline-in-Seen.ensures l.lay_second-refusal.ensures i.if-refusal-ne0.false)
     -- tell-written-requires-2
     (λ c κs. search rules)
-    -- enum_known-sight-in-Refused-1
+    -- enum-known-sight-2
     (λ c. search rules)
-    -- shape_of-second-else-used-p
+    -- same-length-4
     (λ c. search rules)
     -- returns-else-used-p
     (λ c.

@@ -15,9 +15,9 @@ write_pair_spec =
     (λ c. let a = c.args in writes-18 a.p a.number a.first.now a.second.now c.if-p.true)
     -- array-write-v
     (λ c. search rules)
-    -- first_outline-f-requires
+    -- first-outline-requires
     (λ c κs. search rules)
-    -- lay_into-refusal-requires
+    -- lay-into-requires
     (λ c κs. search rules)
     -- returns-then-refusal-ne0
     (λ c.
@@ -30,7 +30,7 @@ write_pair_spec =
     (λ c κs. plan-granted _ c.lay_into-refusal.ensures c.if-refusal-ne0.false)
     -- enum-known-sight
     (λ c. search rules)
-    -- write_beside-requires
+    -- write-beside-requires
     (λ c κs.
     let d = c in
     let k = d in
@@ -42,13 +42,13 @@ write_pair_spec =
     (laid_so a.p _ i.if-p.false f l.lay_into-refusal.ensures n.if-refusal-ne0.false, seen-so f (leb a.p.v1 a.number) a.first.now k.see_field-sight.ensures d.in-Seen.is))
     -- enum-known-sight-2
     (λ c. search rules)
-    -- shape_of-first-in-Seen
+    -- same-length
     (λ c. search rules)
-    -- shape_of-second
+    -- same-length-2
     (λ c. search rules)
     -- returns-in-Seen
     (λ c. search rules)
-    -- shape_of-first-in-Refused
+    -- same-length-3
     (λ c. search rules)
     -- returns-in-Refused
     (λ c.

@@ -11,9 +11,9 @@ pub resume_spec : {M : Type 1} → statement M
 resume_spec =
     tie.close
     (tie.spec
-    -- outline_of-f-requires
+    -- outline-of-requires
     (λ c κs. search rules)
-    -- outline_outside-requires
+    -- outline-outside-requires
     (λ c κs. search rules)
     -- refuse-requires
     (λ c κs. search rules)

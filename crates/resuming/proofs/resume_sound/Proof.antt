@@ -26,13 +26,13 @@ resume_sound_spec =
     (λ c κs. let a = c in ((a.requires.0, a.requires.2), (refl, refl)))
     -- take-aim-requires
     (λ c κs. search rules)
-    -- enum_known-aim
+    -- enum-known-aim
     (λ c. search rules)
     -- generation-at-requires
     (λ c κs. let a = c in (a.requires.0, (aimed c).low))
     -- refuse-requires
     (λ c κs. search rules)
-    -- shape_of-cells-then-g-x
+    -- same-length
     (λ c. search rules)
     -- returns-then-g-x
     (λ c.
@@ -44,7 +44,7 @@ resume_sound_spec =
     resumes-late a.requires.0 a.args.x _ a.requires.2 a.requires.1 l.look_at-seen.ensures.0 (aimed g.before.before) c.refuse.ensures range)
     -- element-copy-out-tell
     (λ c. search rules)
-    -- write_at-turned-requires
+    -- write-at-requires
     (λ c κs.
     let i = c in
     let g = i.before.before in
@@ -73,7 +73,7 @@ resume_sound_spec =
     (λ c. search rules)
     -- refuse-requires-in-Refused
     (λ c κs. search rules)
-    -- shape_of-cells-else-g-x
+    -- same-length-2
     (λ c. search rules)
     -- returns-else-g-x
     (λ c.
@@ -87,7 +87,7 @@ resume_sound_spec =
     let laid = w.write_at-turned.ensures in
     resumes-as a.requires.0 a.args.x _ a.requires.2 a.requires.1 l.look_at-seen.ensures.0 (aimed g.before.before.before.before.before.before.before.before.before.before.before.before) b q _ _ _ (laid.0 a.args.v.now) laid.1
     c.tell.ensures)
-    -- shape_of-cells-in-Refused
+    -- same-length-3
     (λ c. search rules)
     -- returns-in-Refused
     (λ c.

@@ -7,17 +7,17 @@ pub take_aim_spec : {M : Type 1} → statement M
 take_aim_spec =
     tie.close
     (tie.spec
-    -- enum_told-1
+    -- enum-told
     (λ c. search rules)
-    -- enum_told-in-Number
+    -- enum-told-2
     (λ c. search rules)
-    -- enum_known-found
+    -- enum-known-found
     (λ c. search rules)
-    -- aim_behind-requires
+    -- aim-behind-requires
     (λ c κs. search rules)
-    -- enum_known-found-in-Beyond-1
+    -- enum-known-found-2
     (λ c. search rules)
-    -- aim_behind-requires-in-Beyond
+    -- aim-behind-requires-2
     (λ c κs. search rules)
     -- returns-in-Blank
     (λ c. search rules)
