@@ -1,6 +1,6 @@
 use native.Mathlib.Omega.{arith}
 use native.Mathlib.Nat.{sub-zero}
-use Rattle.dump.proofs.Walking.{opened-ready, opened-few, opened-start, opened-barred}
+use Rattle.dump.proofs.Walking.{opened-ready, opened-start}
 use Rattle.fieldlist.proofs.list.Goals as goal
 
 pub list_records-requires : goal.list_records-requires
