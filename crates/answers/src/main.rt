@@ -41,11 +41,15 @@ use lines::output::Text;
 use protocol::calls::{Call, Operation};
 use protocol::input::{Buffer, Window};
 use protocol::{calls, input};
+use std::io::Stdin;
 
-fn main() {
+fn main(rt: HostRuntime) {
     let mut buffer = [0u8; input::BUFFER_MOST];
-    let mut out = [0u8; output::TEXT_MOST];
-    answer_all(&mut buffer, &mut out);
+    let mut out = Text {
+        stdout: rt.stdout(),
+        bytes: [0u8; output::TEXT_MOST],
+    };
+    answer_all(rt.stdin(), &mut buffer, &mut out);
 }
 
 // How far a stream is answered. What is not yet written of the text stands in the output before a place.
@@ -57,7 +61,7 @@ struct State {
 }
 
 // A proved loop has to end, and nothing says that a stream does: the turns are counted down, from a number that no run uses up.
-fn answer_all(buffer: &mut Buffer, out: &mut Text) {
+fn answer_all(stdin: Stdin, buffer: &mut Buffer, out: &mut Text) {
     let mut turns = u64::MAX;
     let window = Window {
         at: 0,
@@ -70,18 +74,18 @@ fn answer_all(buffer: &mut Buffer, out: &mut Text) {
         over: false,
     };
     while 0 < turns && !s.over {
-        s = answer_next(buffer, s, out);
+        s = answer_next(stdin, buffer, s, out);
         turns -= 1;
     }
-    output::write_out(out, s.place);
+    output::write_out(out.stdout, &out.bytes, s.place);
 }
 
-fn answer_next(buffer: &mut [u8], s: State, out: &mut Text) -> State
+fn answer_next(stdin: Stdin, buffer: &mut [u8], s: State, out: &mut Text) -> State
     requires { InBuffer s.window (length buffer.old) × (call_most ≤ length buffer.old) × (s.place ≤ text_most) }
     ensures { InBuffer result.window (length buffer.new) × (result.place ≤ text_most) }
 {
     let mut numbers = [0u64; calls::LISTED_MOST];
-    let next = input::next_call(buffer, s.window, &mut numbers);
+    let next = input::next_call(stdin, buffer, s.window, &mut numbers);
     let start = next.start;
     let end = next.end;
     let call = next.call;

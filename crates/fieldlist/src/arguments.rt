@@ -4,6 +4,7 @@ ghost use Rattle.code.specs.Lists.{same};
 ghost use Rattle.code.specs.Lists.{ascii};
 
 use code::Kind;
+use std::env::{Env, FillError};
 
 #[derive(Drop)]
 pub enum Asked {
@@ -16,20 +17,30 @@ pub enum Asked {
 const WORD_MOST: usize = 8;
 
 // Nothing in the bytes tells the two kinds of dump apart: without an argument the dump is an old one.
-pub fn read_asked() -> Asked {
-    let given = os::arg_count();
-    if given <= 1 {
-        return Asked::Listing(Kind::Old);
-    }
-    if 2 < given {
-        return Asked::Unknown;
-    }
+pub fn read_asked(rt: &impl Env) -> Asked {
     let mut word = [0u8; WORD_MOST];
-    let count = os::arg(1, &mut word);
-    if is_new(&word[..count]) {
-        return Asked::Listing(Kind::New);
+    match rt.arg(1, &mut word) {
+        Err(FillError::NotPresent) => Asked::Listing(Kind::Old),
+        Err(FillError::TooLong) => Asked::Unknown,
+        Ok(count) => {
+            if is_given(rt, 2) {
+                return Asked::Unknown;
+            }
+            if is_new(&word[..count]) {
+                return Asked::Listing(Kind::New);
+            }
+            Asked::Unknown
+        }
     }
-    Asked::Unknown
+}
+
+// Whether there is an argument of a number.
+fn is_given(rt: &impl Env, number: usize) -> bool {
+    let mut word = [0u8; WORD_MOST];
+    match rt.arg(number, &mut word) {
+        Err(FillError::NotPresent) => false,
+        _ => true,
+    }
 }
 
 fn is_new(word: &[u8]) -> bool

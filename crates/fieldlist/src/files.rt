@@ -1,62 +1,75 @@
-// Standard input and standard output, to their end. A call that a signal interrupts is made again; any other that fails leaves its reason in errno.
-ghost use Rattle.io.specs.Counts.{IsPrefixLen};
+// Standard input and standard output, to their end. A call that a signal interrupts is made again; any other that fails is told by its error.
+ghost use Rattle.fieldlist.specs.Reads.{IsPrefixLen};
 
-// What was read, and whether the input ended there or the buffer is full.
+use std::io::{Error, ErrorKind, Read, Stdin, Stdout, Write};
+
+// What was read, and why no more, unless the input ended there or the buffer is full.
 #[derive(Drop)]
 pub struct Input {
     pub count: usize,
-    pub whole: bool,
+    pub failure: Option<Error>,
 }
 
-// A proved loop has to end, and nothing says that interruptions do: the turns are counted down, from a number that no run uses up.
-const TURNS: u64 = u64::MAX;
+// Whether a call was interrupted by a signal.
+fn is_interrupted(error: &Error) -> bool {
+    error.kind() == ErrorKind::Interrupted
+}
 
-pub fn read_all(buffer: &mut [u8]) -> Input
+// A proved loop has to end, and nothing says that interruptions do: this comes behind a number of turns that no run uses up.
+fn interrupted() -> Error {
+    Error::from(ErrorKind::Interrupted)
+}
+
+pub fn read_all(mut stdin: Stdin, buffer: &mut [u8]) -> Input
     ensures { IsPrefixLen result.count buffer.new }
 {
     let mut count = 0;
-    let mut turns = TURNS;
-    while count < buffer.len() {
-        if turns == 0 {
+    for _ in 0..u64::MAX {
+        if buffer.len() <= count {
             return Input {
                 count,
-                whole: false,
+                failure: None,
             };
         }
-        turns -= 1;
-        let got = libc::read(0, &mut buffer[count..]);
-        if got == 0 {
-            return Input { count, whole: true };
-        }
-        if got < 0 {
-            if os::errno() != libc::EINTR {
+        match stdin.read(&mut buffer[count..]) {
+            Ok(0) => {
                 return Input {
                     count,
-                    whole: false,
+                    failure: None,
                 };
             }
-        }
-        count += io::count(got, &buffer[count..]);
-    }
-    Input { count, whole: true }
-}
-
-// Whether all of a text was written.
-pub fn write_all(text: &[u8]) -> bool {
-    let mut count = 0;
-    let mut turns = TURNS;
-    while count < text.len() {
-        if turns == 0 {
-            return false;
-        }
-        turns -= 1;
-        let put = libc::write(1, &text[count..]);
-        if put < 0 {
-            if os::errno() != libc::EINTR {
-                return false;
+            Ok(got) => count += got,
+            Err(error) => {
+                if !is_interrupted(&error) {
+                    return Input {
+                        count,
+                        failure: Some(error),
+                    };
+                }
             }
         }
-        count += io::count(put, &text[count..]);
     }
-    true
+    Input {
+        count,
+        failure: Some(interrupted()),
+    }
+}
+
+// Writes all of a text.
+pub fn write_all(mut stdout: Stdout, text: &[u8]) -> Result<(), Error> {
+    let mut count = 0;
+    for _ in 0..u64::MAX {
+        if text.len() <= count {
+            return Ok(());
+        }
+        match stdout.write(&text[count..]) {
+            Ok(put) => count += put,
+            Err(error) => {
+                if !is_interrupted(&error) {
+                    return Err(error);
+                }
+            }
+        }
+    }
+    Err(interrupted())
 }

@@ -3,17 +3,23 @@ ghost use Rattle.std.specs.Prelude.{◌≡◌, ◌+◌, ◌≤◌, ◌<◌, leng
 ghost use Rattle.lines.specs.Bounds.{piece_most, reply_most, text_most};
 
 use crate::replies::Reply;
+use std::io::Stdout;
 
 pub const TEXT_MOST: usize = 8192;
 
-pub type Text = [u8; TEXT_MOST];
+// Standard output, and the bytes of the text that is gathered for it.
+#[derive(Drop)]
+pub struct Text {
+    pub stdout: Stdout,
+    pub bytes: [u8; TEXT_MOST],
+}
 
 // Writes the text before a place, and answers where the next begins. A write that fails is the end of the output, and no one is left to be told.
-pub fn write_out(out: &[u8], at: usize) -> usize
+pub fn write_out(stdout: Stdout, out: &[u8], at: usize) -> usize
     requires { at ≤ length out.now }
     ensures { result ≡ 0 }
 {
-    io::write_all(1, &out[..at]);
+    let _ = stdout.write_all(&out[..at]);
     0
 }
 
@@ -25,7 +31,7 @@ fn make_room(out: &Text, at: usize, need: usize) -> usize
     if need <= TEXT_MOST - at {
         return at;
     }
-    write_out(out, at)
+    write_out(out.stdout, &out.bytes, at)
 }
 
 pub fn put_word(out: &mut Text, at: usize, word: &[u8]) -> usize
@@ -33,7 +39,7 @@ pub fn put_word(out: &mut Text, at: usize, word: &[u8]) -> usize
     ensures { result ≤ text_most }
 {
     let place = make_room(out, at, word.len());
-    storing::put_bytes(out, place, word)
+    storing::put_bytes(&mut out.bytes, place, word)
 }
 
 // The letters of a name, which end at its first space.
@@ -54,7 +60,7 @@ pub fn put_mark(out: &mut Text, at: usize, mark: u8) -> usize
     ensures { result ≤ text_most }
 {
     let place = make_room(out, at, 1);
-    storing::put_byte(out, place, mark)
+    storing::put_byte(&mut out.bytes, place, mark)
 }
 
 // The most bytes of a space and a number.
@@ -66,8 +72,8 @@ pub fn put_number(out: &mut Text, at: usize, x: u64) -> usize
     ensures { result ≤ text_most }
 {
     let place = make_room(out, at, NUMBER_MOST);
-    let digits = storing::put_byte(out, place, b' ');
-    text::put_decimal(out, digits, x)
+    let digits = storing::put_byte(&mut out.bytes, place, b' ');
+    text::put_decimal(&mut out.bytes, digits, x)
 }
 
 // Numbers, each behind a space.
@@ -109,8 +115,8 @@ fn put_octet(out: &mut Text, at: usize, x: u8) -> usize
     ensures { result ≤ text_most }
 {
     let place = make_room(out, at, 2);
-    let second = storing::put_byte(out, place, hex_digit(x / 16));
-    storing::put_byte(out, second, hex_digit(x % 16))
+    let second = storing::put_byte(&mut out.bytes, place, hex_digit(x / 16));
+    storing::put_byte(&mut out.bytes, second, hex_digit(x % 16))
 }
 
 fn put_octets(out: &mut Text, at: usize, bytes: &[u8]) -> usize

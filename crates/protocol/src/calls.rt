@@ -19,7 +19,7 @@ const RANGES_MOST: u64 = 64;
 pub const LISTED_MOST: usize = 128;
 
 // Why a stream is not followed any further.
-#[derive(Drop)]
+#[derive(Clone, Copy)]
 pub enum Broken {
     Ended,
     CutOff,
@@ -28,7 +28,7 @@ pub enum Broken {
 }
 
 // The calls on a field or on a pair of fields.
-#[derive(Drop)]
+#[derive(Clone, Copy)]
 pub enum OnField {
     Layout,
     Read,
@@ -41,7 +41,7 @@ pub enum OnField {
 }
 
 // The calls that are lent an output.
-#[derive(Drop)]
+#[derive(Clone, Copy)]
 pub enum Stored {
     Export,
     HexExport,
@@ -52,7 +52,7 @@ pub enum Stored {
     ExportRecord,
 }
 
-#[derive(Drop)]
+#[derive(Clone, Copy)]
 pub enum Operation {
     OnField(OnField),
     Walk(Kind),
@@ -61,7 +61,7 @@ pub enum Operation {
 }
 
 // So many numbers from a place on.
-#[derive(Drop)]
+#[derive(Clone, Copy)]
 struct Span {
     from: usize,
     count: usize,
@@ -70,7 +70,7 @@ struct Span {
 // A call, 0 for what it lacks: the serial and the layout's number of a record; the shape, or the pair; the number behind it, which is the range of a record that has no more
 // of a shape than m and t; how many numbers it lists; the length of the output that it asks for; its bytes from `start` to `end`, and there its end. Where it
 // has bytes twice, the first of these are as many as `first`, and the second begin at `second`.
-#[derive(Drop)]
+#[derive(Clone, Copy)]
 pub struct Call {
     pub operation: Operation,
     pub serial: u64,

@@ -4,6 +4,7 @@ ghost use Rattle.protocol.specs.Bounds.{call_most, listed_most, InBuffer, Within
 
 use crate::calls;
 use crate::calls::Call;
+use std::io::{Read, Stdin};
 
 // What is read and not yet answered stands from `at` to `end`; where the input has ended, that is all.
 #[derive(Drop)]
@@ -31,7 +32,7 @@ pub type Buffer = [u8; BUFFER_MOST];
 const CALL_MOST: usize = 67122;
 
 // Reads on where what is left might not be a whole call.
-fn refill(buffer: &mut [u8], w: Window) -> Window
+fn refill(stdin: Stdin, buffer: &mut [u8], w: Window) -> Window
     requires { InBuffer w (length buffer.old) × (call_most ≤ length buffer.old) }
     ensures { InBuffer result (length buffer.new) × (result.ended ≡ false → result.at + call_most ≤ result.end) }
 {
@@ -43,12 +44,26 @@ fn refill(buffer: &mut [u8], w: Window) -> Window
         return w;
     }
     move_to_front(buffer, w.at, left);
-    let end = left + io::read_full(0, &mut buffer[left..]);
+    let end = left + read_full(stdin, &mut buffer[left..]);
     Window {
         at: 0,
         end,
         ended: end < buffer.len(),
     }
+}
+
+// Reads until the buffer is full, the input ends or a read fails, and answers how many bytes were read.
+fn read_full(mut stdin: Stdin, buffer: &mut [u8]) -> usize
+    ensures { result ≤ length buffer.new }
+{
+    let mut count = 0;
+    while count < buffer.len() {
+        match stdin.read(&mut buffer[count..]) {
+            Ok(got) if 0 < got => count += got,
+            _ => return count,
+        }
+    }
+    count
 }
 
 fn move_to_front(buffer: &mut [u8], from: usize, count: usize)
@@ -81,11 +96,11 @@ fn take_call(window: Window, call: Call) -> Next
 }
 
 // The next call of the stream. The numbers that it lists are put into those that are lent.
-pub fn next_call(buffer: &mut [u8], w: Window, numbers: &mut [u64]) -> Next
+pub fn next_call(stdin: Stdin, buffer: &mut [u8], w: Window, numbers: &mut [u64]) -> Next
     requires { InBuffer w (length buffer.old) × (call_most ≤ length buffer.old) × (listed_most ≤ length numbers.old) }
     ensures { NextIn result (length buffer.new) }
 {
-    let window = refill(buffer, w);
+    let window = refill(stdin, buffer, w);
     let at = window.at;
     let end = window.end;
     let call = calls::read_call(&buffer[at..end], numbers);
