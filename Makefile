@@ -3,20 +3,16 @@
 CALLS = 200000
 ROUNDS ?= 21
 CASES ?= .*
-PROGRAMS = fieldlist answers handbook
 PREFIX = /usr/local
 ARCHIVE = target/staticlib/libgorvlime.a
 SHARED = target/shared/libgorvlime.so
-# Crates and wrong builds are proved in batches, and a batch takes as long as its slowest: of twice as many as there are
-# processors less time is lost. One takes up to 1 GB.
-export RT_JOBS ?= $(shell expr 2 \* $$(nproc))
 
 help: ## lists the targets
 	@sed -n 's/^\([a-z]*\):.*## /make \1\t/p' Makefile | expand -t 18
 
 demo: ## proves fieldlist and lists samples/drives.dump with it: seven fields, one of them damaged
-	@echo 'Proves fieldlist (some 4 minutes on two cores the first time, seconds later on) and lists samples/drives.dump:' >&2
-	@tools/prove check fieldlist
+	@echo 'Proves fieldlist (some minutes the first time, seconds later on) and lists samples/drives.dump:' >&2
+	@tools/prove fieldlist
 	@tools/run fieldlist <samples/drives.dump
 
 test: ## proves every crate, tries every wrong build and runs every test
@@ -24,12 +20,12 @@ test: ## proves every crate, tries every wrong build and runs every test
 
 wrong: ## tries the wrong builds of CRATE=.. alone, or of all crates, over what is proved of them
 	@tools/setup
-	@tools/prove check $(or $(CRATE),$(PROGRAMS) figures)
+	@tools/prove $(CRATE)
 	@tools/wrong --all $(CRATE)
 
 curve: ## makes a table and a picture of samples/year, target/year.csv and year.png; installs matplotlib if it is missing
 	@tools/setup-curve
-	@tools/prove check fieldlist
+	@tools/prove fieldlist
 	@examples/curve.py --new --csv target/year.csv --picture target/year.png --label 'brake travel in micrometres' \
 	    samples/year/*.dump
 	@echo target/year.csv target/year.png
@@ -44,7 +40,7 @@ install: $(ARCHIVE) $(wildcard $(SHARED)) ## installs the library, its header an
 crosscheck: $(ARCHIVE) ## holds CALLS=200000 seeded calls against the second program
 	@tools/setup
 	@cd second && cargo build --release --offline --quiet
-	@tools/prove check answers
+	@tools/prove answers
 	@tests/crosscheck $(CALLS)
 
 bench: $(ARCHIVE) ## compares the archive with plain C in instructions and time; CASES='read|walk' counts those alone
@@ -52,11 +48,11 @@ bench: $(ARCHIVE) ## compares the archive with plain C in instructions and time;
 	@bench/run --rounds $(ROUNDS) --cases '$(CASES)'
 
 triangle: ## prints the stored binomials, C(n, 0) to C(n, n) in row n
-	@tools/prove check handbook
+	@tools/prove handbook
 	@tools/run handbook
 
-$(ARCHIVE): crates.txt $(shell find crates -name '*.rt' -o -name '*.antt')
-	@tools/prove staticlib gorvlime
+$(ARCHIVE): crates.txt $(shell find crates -name out -prune -o \( -name '*.rt' -o -name '*.antt' \) -print)
+	@tools/archive
 
 $(SHARED): $(ARCHIVE) include/gorvlime.h tools/shared
 	@tools/setup

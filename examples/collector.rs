@@ -6,7 +6,7 @@
 //!     tools/rustc examples/collector.rs -o target/collector
 //!     tools/run-c target/collector <samples/drives.dump
 //!
-//! The archive is for x86-64, where tools/rustc is `rustc -O -L target/staticlib`; on Arm the program is x86-64 code too.
+//! The archive is for x86-64; tools/rustc is `rustc -O -L target/staticlib`.
 //! include/gorvlime.h tells what each number of an answer means.
 
 #![no_main]
@@ -69,7 +69,7 @@ fn list(dump: &[u8]) -> bool {
     }
 }
 
-/// C's `main`: before its own, Rust asks where the stack ends, which the emulator on Arm does not survive.
+/// C's `main`, since this program has none of Rust's.
 #[no_mangle]
 pub extern "C" fn main() -> i32 {
     let mut dump = Vec::new();

@@ -10,7 +10,7 @@ from statements import WORD, Library, items, named
 
 BELIEVED = "crates/code/specs/"
 # What is promised to those who use it: the calls, and the program.
-PUBLIC = ("crates/gorvlime/src/*.rt", "crates/fieldlist/src/*.rt")
+PUBLIC = ("crates/gorvlime/src/*.rt", "crates/gorvlime_c/src/*.rt", "crates/fieldlist/src/*.rt")
 
 
 def constructors(item):
@@ -23,7 +23,7 @@ def constructors(item):
 def aliases(path):
     """The modules that a file takes whole, by the names that it gives them."""
     found = re.findall(r"^(?:ghost )?use (\S+) as (\w+);?$", text(path), re.MULTILINE)
-    return {alias: re.sub(r"·(specs|proofs)\.\1\.", r".\1.", module) for module, alias in found}
+    return {alias: module for module, alias in found}
 
 
 class Names:
@@ -44,7 +44,7 @@ class Names:
 
     def meant(self, path, word):
         """The definition that a word of a file is, if it is one of ours."""
-        word = word.strip("_⌜⌝.")
+        word = word.strip("◌.")
         own = self.files.get(path, {}).get(word)
         if own:
             return own
@@ -53,7 +53,7 @@ class Names:
         head, dot, tail = word.partition(".")
         if not place and dot and head in modules:
             place = modules[head] + "." + tail
-        found = re.fullmatch(r"Rattle·(\w+)\.(specs|proofs)\.(\w+)\.(\S+)", place)
+        found = re.fullmatch(r"Rattle\.(\w+)\.(specs|proofs)\.(\w+)\.(\S+)", place)
         return self.files.get("crates/%s/%s/%s.antt" % found.group(1, 2, 3), {}).get(found.group(4)) if found else None
 
 

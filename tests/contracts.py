@@ -1,17 +1,21 @@
 """The contracts of the public calls, and the theorems that they leave no choice, for tests/run-docs.
 
-A public call is a public function of crate gorvlime. Its contract has no `requires`, one equation for the answer and one for
-the exit of each slice that it may change, and none of them speaks of answer or exit on its right side. A theorem `unique..`
+A public call is a public function of crate gorvlime, or of gorvlime_c for C. Its contract has no `requires`, one equation for the
+answer and one for what each slice that it may change holds after it, and none of them speaks of answer or exit on its right side. A theorem `unique..`
 of a file proofs/Unique is about a contract when it says of all inputs, two answers and two contents left that they are the
 same where the contract's equations hold of both: nothing more is assumed, nothing less concluded. Variables may have other
-names; all other names are imported from the same place. So neither can be weakened without the other, whatever the documents
-quote."""
+names; all other names come from the same place, also where one imports a name from a page of the toolchain's that passes it on.
+So neither can be weakened without the other, whatever the documents quote."""
+import functools
 import glob
 import os
 import re
+import subprocess
 
 ROOT = os.path.dirname(os.path.dirname(os.path.abspath(__file__)))
-ANSWER = "r"
+ANSWER = "result"
+# What holds of a parameter before a call and after it, and of one that is only read.
+BEFORE, AFTER, LENT = "old", "new", "now"
 
 
 class Odd(Exception):
@@ -24,26 +28,63 @@ def text(path):
 
 
 def sources():
-    return sorted(glob.glob("crates/gorvlime/src/**/*.rt", root_dir=ROOT, recursive=True), reverse=True)
+    return [path for crate in ("gorvlime", "gorvlime_c")
+            for path in sorted(glob.glob("crates/%s/src/**/*.rt" % crate, root_dir=ROOT, recursive=True))]
 
 
 def proofs():
     return sorted(path for folder in ("specs", "proofs") for path in glob.glob("crates/*/%s/*.antt" % folder, root_dir=ROOT))
 
 
-def imported(path):
-    """Where the names of a file come from. Within its own crate a module has a longer path than elsewhere."""
-    names = {}
-    for module, listed in re.findall(r"^(?:ghost )?use (\S+)\.\{([^}]*)\}", text(path), re.MULTILINE):
-        module = re.sub(r"·(specs|proofs)\.\1\.", r".\1.", module)
+@functools.lru_cache(maxsize=None)
+def kit():
+    """The folder of the toolchain's own definitions."""
+    return os.path.join(os.path.dirname(subprocess.run(["rt", "doc"], capture_output=True, text=True, check=True).stdout.strip()), "rattle")
+
+
+def uses(source):
+    """Module, name and alias of each name that a file imports, or passes on."""
+    for module, listed in re.findall(r"^(?:ghost |pub )?use (\S+)\.\{([^}]*)\}", source, re.MULTILINE):
         for name in listed.split(","):
             name, _, alias = name.strip().partition(" as ")
-            names[(alias or name).strip("_")] = module + "." + name
-    return names
+            yield module, name, alias or name
+
+
+@functools.lru_cache(maxsize=None)
+def passed_on(module):
+    """Where the names come from that a page of the toolchain's only passes on."""
+    crate = re.fullmatch(r"Rattle\.(\w+)\.specs\.Prelude", module)
+    if not crate:
+        return {}
+    with open(os.path.join(kit(), crate[1], "specs", "Prelude.antt"), encoding="utf-8") as file:
+        return {alias: (module, name) for module, name, alias in uses(file.read())}
+
+
+def origin(module, name):
+    while name in passed_on(module):
+        module, name = passed_on(module)[name]
+    return module + "." + name
+
+
+def imported(path):
+    """Where the names of a file come from."""
+    return {alias.strip("◌"): origin(module, name) for module, name, alias in uses(text(path))}
 
 
 def tokens(source):
     return re.findall(r"[(){}]|[^\s(){}]+", source)
+
+
+def projected(words, inputs, others):
+    """With a field of an input as one word, and a field of another variable as the variable and the field."""
+    for word in words:
+        name, dot, field = word.partition(".")
+        if dot and name in inputs:
+            yield name + "·" + field
+        elif dot and name in others:
+            yield from (name, "." + field)
+        else:
+            yield word
 
 
 def split(words, separator):
@@ -88,7 +129,7 @@ class Call:
         self.path, self.quoted = path, quoted.rstrip()
         self.types = dict(re.findall(r"(\w+): ([^,\n]+)", parameters))
         self.equations = []
-        before, *clauses = re.split(r"^    (?=\w+ \{)", clauses, flags=re.MULTILINE)
+        before, *clauses = re.split(r"^    (?=\w+(?: \w+)? \{)", clauses, flags=re.MULTILINE)
         for clause in filter(None, [before] + clauses):
             self.add_clause(" ".join(clause.split()))
         self.check()
@@ -96,15 +137,23 @@ class Call:
         self.equations = [[names.get(word, word) for word in flat(words)] for words in self.equations]
 
     def add_clause(self, clause):
-        promise = re.fullmatch(r"ensures \{ λ %s\. ⌜ (.*) ⌝ \}" % ANSWER, clause)
+        promise = re.fullmatch(r"ensures (?:\w+ )?\{ (.*) \}", clause)
         if not promise:
             raise Odd("this is no promise of an answer: " + clause)
-        said = re.sub(r"\bnow \((\w+) \.entry\)", r"\1", promise.group(1))
-        said = re.sub(r"\bnow \((\w+) \.exit\)", r"\1·exit", said)
-        said = re.sub(r"\bnow (\w+)", r"\1", said)
-        said = re.sub(r"\b(%s) \.(\w+)" % "|".join(self.types), r"\1·\2", said)
+        said = list(projected(map(self.held, tokens(promise.group(1))), self.types, [ANSWER]))
         # What is no equation says more of an answer that another clause has to fix.
-        self.equations += [part for part in map(bare, split(tokens(said), "×")) if "≡" in part]
+        self.equations += [part for part in map(bare, split(said, "×")) if "≡" in part]
+
+    def held(self, word):
+        """What a slice holds before the call is its own name, and after it the name with `·exit`; any other way to speak of it is odd."""
+        name, _, moment = word.partition(".")
+        kind = self.answer if name == ANSWER else self.types.get(name, "")
+        if kind.startswith("&"):
+            known = {BEFORE: name, AFTER: name + "·exit"} if kind.startswith("&mut") else {LENT: name}
+            if moment not in known:
+                raise Odd("this is not what %s holds before the call or after it: %s" % (name, word))
+            return known[moment]
+        return word
 
     def due(self):
         """What the contract has to fix."""
@@ -143,7 +192,7 @@ def unfolded(words, names):
 
 def meaning(name, values):
     module, _, name = name.rpartition(".")
-    path = re.sub(r"^Rattle·(\w+)\.(\w+)\.(\w+)$", r"crates/\1/\2/\3.antt", module)
+    path = re.sub(r"^Rattle\.(\w+)\.(\w+)\.(\w+)$", r"crates/\1/\2/\3.antt", module)
     pattern = r"^abbrev pub %s :[^\n]*\n%s ([^=\n]*) = ([^\n]*)$" % (re.escape(name), re.escape(name))
     found = re.search(pattern, text(path), re.MULTILINE) if path in proofs() else None
     if not found or len(found.group(1).split()) != len(values):
@@ -182,8 +231,7 @@ class Theorem:
     def joined(self, words):
         """A field of an input is one word, as in the equations of a call."""
         inputs = set(self.types) - {name for pair in self.pairs for name in pair}
-        alternatives = "|".join(map(re.escape, sorted(inputs)))
-        return re.sub(r"(?<!\S)(%s) \.(\w+)" % alternatives, r"\1·\2", " ".join(words)).split()
+        return list(projected(words, inputs, set(self.types) - inputs))
 
     def is_about(self, call):
         """Every word is the call's, or a variable that stands for the same word of the call throughout."""
@@ -248,7 +296,7 @@ def quotation():
     faults += odd + list(header_faults(called))
     lines = []
     for path in sources():
-        named = re.findall(r"^ghost use .*", text(path), re.MULTILINE)
+        named = re.findall(r"^ghost use [^;]*;", text(path), re.MULTILINE)
         lines += ["%s takes its names from:" % path, "", "```", *named, "```", ""]
     for call in called:
         about = [theorem for theorem in proved if theorem.is_about(call)]

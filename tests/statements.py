@@ -28,7 +28,9 @@ class Item:
         return "\n".join(line.rstrip() for line in shown)
 
     def words(self):
-        return {word for line in self.heads + self.lines for word in WORD.findall(line)}
+        found = {word for line in self.heads + self.lines for word in WORD.findall(line)}
+        # Of a field the name whose field it is.
+        return found | {word.partition(".")[0] for word in found}
 
 
 def indent(line):
@@ -80,7 +82,7 @@ def named(paths):
     """Name and file of each theorem that a row of a table names in a document, as | `a`, `b` | code/proofs/Demand | .. |."""
     pairs = []
     for path in paths:
-        for names, where in re.findall(r"^\| (`[^|]*`) \| ([a-z]+/proofs/[A-Z]\w*) \|", text(path), re.MULTILINE):
+        for names, where in re.findall(r"^\| (`[^|]*`) \| ([a-z_]+/proofs/[A-Z]\w*) \|", text(path), re.MULTILINE):
             pairs += [("crates/%s.antt" % where, name) for name in re.findall(r"`([^`]+)`", names)]
     return list(dict.fromkeys(pairs))
 
@@ -100,7 +102,7 @@ class Library:
         """The definition among proofs that a word of a file is, if it is one."""
         item = self.files[path].get(word)
         if item is None:
-            module = re.fullmatch(r"Rattle·(\w+)\.proofs\.(\w+)\.(\S+)", self.names[path].get(word, ""))
+            module = re.fullmatch(r"Rattle\.(\w+)\.proofs\.(\w+)\.(\S+)", self.names[path].get(word, ""))
             if module and "crates/%s/proofs/%s.antt" % module.group(1, 2) in self.files:
                 item = self.files["crates/%s/proofs/%s.antt" % module.group(1, 2)].get(module.group(3))
         return item if item and item.defines else None

@@ -6,7 +6,7 @@ import glob
 import os
 
 ROOT = os.path.dirname(os.path.dirname(os.path.abspath(__file__)))
-# The wrong builds that the documents name, which `rt ci` tries from nothing, and all others, which tools/wrong tries.
+# The wrong builds that the documents name, which `rt ci` tries, and all others, which tools/wrong tries.
 NAMED, OTHERS = "must-fail", "wrong"
 # What of a crate is proved, and so what an edit may change.
 FOLDERS = ("src", "specs", "proofs")
@@ -41,18 +41,20 @@ def pairs(edit):
 
 def applied(edit, crate):
     """The texts of the changed files of a crate's folder by their paths, all replacements made."""
-    texts = {}
+    texts, before = {}, {}
     for path, old, new in pairs(edit):
         if not path or path.split("/")[0] not in FOLDERS or ".." in path.split("/"):
             raise Broken("it names no file of %s" % ", ".join(FOLDERS))
         if path not in texts:
             if not os.path.isfile(os.path.join(crate, path)):
                 raise Broken("no file %s" % path)
-            texts[path] = text(os.path.join(crate, path))
+            texts[path] = before[path] = text(os.path.join(crate, path))
         times = texts[path].count(old) if old else 0
         if times != 1:
             raise Broken("stands %d times in %s: %s" % (times, path, old))
         texts[path] = texts[path].replace(old, new)
     if not texts:
         raise Broken("it replaces nothing")
+    if texts == before:
+        raise Broken("it changes nothing")
     return texts

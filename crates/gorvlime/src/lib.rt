@@ -1,8 +1,6 @@
 // The public calls: each answers for all inputs, and its promise fixes the answer and all that it is lent.
 #![tactic(auto)]
 
-pub mod c;
-
 ghost use Rattle.std.specs.Prelude.{◌≡◌, ◌∷◌, take, drop};
 ghost use Rattle.code.specs.Calls.{filled, layout_fields, layout_reply, read_reply, write_reply, write_leaves};
 ghost use Rattle.code.specs.Many.{many_reply, many_leaves};

@@ -47,7 +47,7 @@ sight_on (Field.beyond i) = NotSeen (Beyond i)
 abbrev pub sighted : Shape → Bool → List ℕ → Sight
 sighted s over bytes = cond (sound (order_of s) s.m (width_of s) bytes) (cond over (NotSeen (Plain 6)) (sight_on (field_read s bytes))) (NotSeen (Plain 3))
 
--- the ranges of both fields are equal and stand in v, and h has the counts of the first
+-- RULES 19: the ranges of both fields are equal and stand in v, and h has the counts of the first
 pub record Laid (p : Pair) (v h : List ℕ) : Type 0 where
   pub same : p.v1 ≡ p.v2
   pub ranges : v ≡ p.v1 ∷ replicate 15 0
