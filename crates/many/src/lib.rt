@@ -19,7 +19,7 @@ const NUMBERS_MOST: usize = 64;
 // fields are written, and what the refusal carries, as far as it does: the generation that the field's zero groups point to, and how many
 // are not erased. Behind that two rows of 64: of each field written its generation, then of each its turned count, 0 behind them.
 #[repr(C)]
-#[derive(Drop)]
+#[derive(Clone, Copy)]
 pub struct Many {
     pub refusal: u64,
     pub stopped: u64,
