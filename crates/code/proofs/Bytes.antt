@@ -17,7 +17,7 @@ use Rattle.code.specs.Calls.{groups_in, read_cells, storing, write_cells}
 use Rattle.code.specs.Judge.{Due}
 use Rattle.code.specs.Lists.{Upto}
 use Rattle.code.proofs.Wits.{Bytes}
-use Rattle.code.proofs.Cells.{groups-length, sound-told, sound-length, stored-wit, stored_bytes, stored-length, stored-opened, stored-sound, opened-small, grows-wit, turned_ones, blank-wit, none-at}
+use Rattle.code.proofs.Cells.{groups-length, sound-told, sound-length, stored-wit, stored_bytes, stored-length, stored-opened, stored-sound, opened-small, grows-wit, turned_ones, blank-wit, blank-stored, upto_all, none-at}
 use Rattle.code.proofs.Conditions.{Layout}
 use Rattle.code.proofs.Field.{Tells, Wrote, write-is}
 use Rattle.code.proofs.Run.{InRange, tried}
@@ -189,3 +189,15 @@ module _ (c : Code) where
         let same : run (tried_cells c) bs (take j xs) ≡ stored c.order c.m now = ap (λ z. run (tried_cells c) z (take j xs)) (sym told) ∙ r.2 in
         rw (same, stored-write (get_or xs j 0) now r.0 r.1, storing-accepted c.order c.m (write c (get_or xs j 0) now))
         (groupwise.accepts-from c y k gs (groupwise.due-held c y k gs long d) xs j b l)
+
+    -- Demand 3: from the blank buffer, write j + 1 of a sequence in range is accepted exactly when j + 1 less the opening_zeros zeros is at most the number of
+    -- generations.
+    pub accepts-is : (xs : List ℕ) (j : ℕ) → InRange c.first c.ranges 0 xs → j < length xs →
+        accepted (write_cells c (get_or xs j 0) (run (tried_cells c) (replicate (size c.m (width c)) 0) (take j xs))) ≡ leb
+        (suc j - opening_zeros c.first xs) (length c.counts)
+    accepts-is xs j b l =
+        let h = width c in
+        let gs = run (tried c) (replicate h 0) (take j xs) in
+        let r = run-stored (replicate h 0) (take j xs) (length-replicate h 0) (upto_all (erased c) (replicate h 0) (λ i k. omega (arith, none-at h i))) in
+        rw (← blank-stored c.order c.m h pos, r.2, stored-write (get_or xs j 0) gs r.0 r.1, storing-accepted c.order c.m (write c (get_or xs j 0) gs))
+        (groupwise.accepts c y xs j b l)

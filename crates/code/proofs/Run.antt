@@ -291,3 +291,12 @@ module _ (code : Code) (y : Layout code) where
         | inl g ↦ rw (le-leb (c + (suc j - o)) t g, (taken used (get_or xs j 0) now k (low g) (i.1 (low g))).0)
         | inr g ↦ rw (lt-leb (c + (suc j - o)) t g, spent code (get_or xs j 0) used now k (omega arith))
       ]
+
+  -- Demand 3. The write at place j of a sequence from blank cells, which is write j + 1, is accepted exactly when j + 1 less the opening_zeros zeros is at most the
+  -- number of generations.
+  pub accepts : (xs : List ℕ) (j : ℕ) → InRange code.first code.ranges 0 xs → j < length xs →
+      accepted (write code (get_or xs j 0) (run (tried code) (replicate (width code) 0) (take j xs))) ≡ leb (suc j - opening_zeros code.first xs)
+      (length code.counts)
+  accepts xs j r l =
+      let same : 0 + (suc j - opening_zeros (0 + code.first) xs) ≡ suc j - opening_zeros code.first xs = rw (zero-add code.first, zero-add) in
+      accepts-from 0 (replicate (width code) 0) (blank-held code) xs j r l ∙ rw same

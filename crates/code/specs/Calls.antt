@@ -153,7 +153,7 @@ over_place s x n = eqb s.form 2 && leb (get_or (ranges_of s) n 0) x
 
 -- 02, §7; RULES 6: of form 2: not "below the range of the generation that would take it"
 unfoldable pub over_taker : Shape → ℕ → Reading → Bool
-over_taker s x r = over_place s x (taker r)
+over_taker s x r = eqb s.form 2 && leb (get_or (ranges_of s) (taker r) 0) x
 
 -- 01, Reading; RULES 5: the generation of a reading; "All-zero cells read as generation 1, number 0"
 unfoldable pub generation : Reading → ℕ

@@ -180,14 +180,14 @@ fn break_off(why: Broken) -> Call
 fn read_front(s: &[u8], code: u8) -> Call
     ensures { Within result (length s.now) }
 {
-    let count = parts::numbers_in_front(code);
+    let count = parts::count_in_front(code);
     let end = 1 + 8 * count;
     if s.len() < end {
         return break_off(Broken::CutOff);
     }
-    let mut n = [0u64; parts::NUMBERS_MOST];
+    let mut n = [0u64; parts::PAIR_NUMBERS];
     numbers_at(s, Span { from: 1, count }, &mut n);
-    let front = parts::front_of(code, &n);
+    let front = parts::front_with(code, &n);
     begin(parts::operation_of(code), front, end)
 }
 

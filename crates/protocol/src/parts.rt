@@ -36,18 +36,38 @@ pub fn is_known(code: u8) -> bool {
     }
 }
 
-// The most numbers in front: those of a pair.
-pub const NUMBERS_MOST: usize = 6;
+// The most numbers in front of a call that is not on a pair: those of a record of a new dump.
+pub const NUMBERS_MOST: usize = 5;
 
-// How many numbers stand in front.
+// How many numbers stand in front of a call that is not on a pair.
 pub fn numbers_in_front(code: u8) -> usize
-    ensures { result ≤ 6 }
+    ensures { result ≤ 5 }
 {
     match code {
         5..=10 => 0,
         12 => 5,
-        16 | 17 => 6,
         _ => 3,
+    }
+}
+
+// The numbers in front of a call on a pair, the most of all.
+pub const PAIR_NUMBERS: usize = 6;
+
+pub fn is_on_pair(code: u8) -> bool {
+    match code {
+        16 | 17 => true,
+        _ => false,
+    }
+}
+
+// How many numbers stand in front of any call.
+pub fn count_in_front(code: u8) -> usize
+    ensures { result ≤ 6 }
+{
+    if is_on_pair(code) {
+        PAIR_NUMBERS
+    } else {
+        numbers_in_front(code)
     }
 }
 
@@ -87,28 +107,33 @@ fn shape_front(form: u64, m: u64, t: u64) -> Front {
     front
 }
 
-pub fn front_of(code: u8, n: &[u64; NUMBERS_MOST]) -> Front {
+pub fn front_of(code: u8, first: u64, second: u64, third: u64, fourth: u64, fifth: u64) -> Front {
     match code {
         4 => {
-            let mut front = shape_front(0, n[1], n[2]);
-            front.serial = n[0];
+            let mut front = shape_front(0, second, third);
+            front.serial = first;
             front
         }
         12 => {
-            let mut front = shape_front(n[2], n[3], n[4]);
-            front.serial = n[0];
-            front.layout = n[1];
+            let mut front = shape_front(third, fourth, fifth);
+            front.serial = first;
+            front.layout = second;
             front
         }
-        16 | 17 => {
-            let mut front = shape_front(n[0], n[1], n[2]);
-            front.v = n[3];
-            front.t2 = n[4];
-            front.v2 = n[5];
-            front
-        }
-        _ => shape_front(n[0], n[1], n[2]),
+        _ => shape_front(first, second, third),
     }
+}
+
+// The numbers in front of any call by what they are.
+pub fn front_with(code: u8, n: &[u64; PAIR_NUMBERS]) -> Front {
+    if is_on_pair(code) {
+        let mut front = shape_front(n[0], n[1], n[2]);
+        front.v = n[3];
+        front.t2 = n[4];
+        front.v2 = n[5];
+        return front;
+    }
+    front_of(code, n[0], n[1], n[2], n[3], n[4])
 }
 
 pub fn has_ranges(code: u8) -> bool {

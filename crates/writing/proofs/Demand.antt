@@ -69,9 +69,15 @@ pub record CallsFrom (s : Shape) (start xs : List ℕ) (cells : ℕ → List ℕ
   pub first : cells 0 ≡ start
   pub each : (j : ℕ) → j < length xs → Answers s (get_or xs j 0) (cells j) (writing_of (answers j)) (cells (suc j))
 
--- the same from blank cells
-abbrev pub Calls : Shape → List ℕ → (ℕ → List ℕ) → (ℕ → Writing) → Type 0
-Calls s xs cells answers = CallsFrom s (Code.blank_cells s) xs cells answers
+-- A run of calls from blank cells: call j gets the cells that the call before left, and its answer is one that its promise allows.
+pub record Calls (s : Shape) (xs : List ℕ) (cells : ℕ → List ℕ) (answers : ℕ → Writing) : Type 0 where
+  pub blank : cells 0 ≡ Code.blank_cells s
+  pub each : (j : ℕ) → j < length xs → Answers s (get_or xs j 0) (cells j) (writing_of (answers j)) (cells (suc j))
+
+-- which is one from any cells
+abbrev from_blank : {s : Shape} {xs : List ℕ} {cells : ℕ → List ℕ} {answers : ℕ → Writing} → Calls s xs cells answers →
+    CallsFrom s (Code.blank_cells s) xs cells answers
+from_blank C = record { first = C.blank; each = C.each }
 
 -- what the first j calls answer as turned
 unfoldable pub turned_sum : (ℕ → Writing) → ℕ → ℕ
@@ -96,7 +102,7 @@ module _ (s : Shape) (ok : layout_refusal s 256 ≡ []) (start xs : List ℕ) (c
 module _ (s : Shape) (ok : layout_refusal s 256 ≡ []) (xs : List ℕ) (cells : ℕ → List ℕ) (answers : ℕ → Writing) (C : Calls s xs cells answers) where
   abbrev passed : (j : ℕ) → j < length xs →
       accepts (answers j) ≡ passes (write_refusal s (get_or xs j 0) (run (write_leaves s) (Code.blank_cells s) (take j xs)))
-  passed = passes-is s ok (Code.blank_cells s) xs cells answers C
+  passed = passes-is s ok (Code.blank_cells s) xs cells answers (from_blank C)
 
   -- Of the forms that have one v: call j, the first being call 0, is accepted exactly when j + 1 less the zeros that open the sequence is at most t.
   pub accepted-exactly : (s.form ≡ 2 → ⊥) → (j : ℕ) → Below (get_or s.v 0 0) xs → j < length xs →
@@ -115,7 +121,7 @@ module _ (s : Shape) (ok : layout_refusal s 256 ≡ []) (xs : List ℕ) (cells :
   are-bytes : (j : ℕ) → j ≤ length xs → Bytes (cells j)
   are-bytes zero l =
       let n = size s.m (width_of s) in
-      rw C.first (λ i b. omega (arith, get_or-replicate {A = ℕ} n i 0 0 (rw (length-replicate {A = ℕ} n 0) at b)))
+      rw C.blank (λ i b. omega (arith, get_or-replicate {A = ℕ} n i 0 0 (rw (length-replicate {A = ℕ} n 0) at b)))
   are-bytes (suc j) l =
       rw ((C.each j (omega arith)).1, leaves-is s ok (get_or xs j 0) (cells j))
       (tried-is (code_of s) (is-layout s ok) (omega (arith, (bounded s ok).m-low)) (get_or xs j 0) (cells j)
@@ -131,9 +137,9 @@ module _ (s : Shape) (ok : layout_refusal s 256 ≡ []) (xs : List ℕ) (cells :
   counted zero l = refl
   counted (suc j) l =
       let more = total-more (λ x bs. turned_by (write_reply s x bs)) (write_leaves s) (Code.blank_cells s) xs j (omega arith) in
-      let n = rw (cells_are s ok (Code.blank_cells s) xs cells answers C j (omega arith)) at (turns-is s (get_or xs j 0) (cells j) (answers j) (C.each j (omega arith)).0) in
+      let n = rw (cells_are s ok (Code.blank_cells s) xs cells answers (from_blank C) j (omega arith)) at (turns-is s (get_or xs j 0) (cells j) (answers j) (C.each j (omega arith)).0) in
       omega (arith, more, n, counted j (omega arith))
 
   -- The turned counts answered add up to the ones in the cells.
   pub turned-add-up : (j : ℕ) → j ≤ length xs → turned_sum answers j ≡ ones (order_of s) (cells j)
-  turned-add-up j l = sym (counted j l) ∙ Code.turned-add-up s ok (take j xs) ∙ ap (ones (order_of s)) (sym (cells_are s ok (Code.blank_cells s) xs cells answers C j l))
+  turned-add-up j l = sym (counted j l) ∙ Code.turned-add-up s ok (take j xs) ∙ ap (ones (order_of s)) (sym (cells_are s ok (Code.blank_cells s) xs cells answers (from_blank C) j l))
