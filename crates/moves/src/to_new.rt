@@ -206,7 +206,7 @@ pub fn move_records(dump: &[u8], places: &[u16], out: &mut [u8]) -> Moved
     ensures result_value { moved_of result ≡ to_new_reply dump.now out.old }
     ensures out_after { out.new ≡ to_new_leaves dump.now out.old }
 {
-    // Ones, since so many zeros would be stored by a call of memset, which a board may lack.
+    // Today's compiler clears so many numbers by a call of memset before it fills them, with ones too (docs/PORT.md).
     let mut kept = [1u64; KEPT_MOST];
     match collect(dump, places, &mut kept) {
         Collected::Whole { total, layouts } => store(dump, places, &kept, layouts, total, out),
