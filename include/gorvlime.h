@@ -31,9 +31,9 @@
  *   lent. Nothing that is lent may change while a call runs, by another thread, an interrupt or a device. Not a byte more is
  *   read or stored than is lent.
  * - There is no state, no heap and no lock: calls may run at once on different memory.
- * - The archive libgorvlime.a is for 64-bit x86 and its System V calling convention. Of other code it needs `memcpy` and
- *   nothing else; layout, read and write need no other code at all. It is position independent, and all its data is
- *   read-only. Code and data together have some 53 kilobytes linked whole, and some 31 kilobytes in a program that calls
+ * - The archive libgorvlime.a is for 64-bit x86 and its System V calling convention. Of other code it needs `memcpy`,
+ *   `memset` and nothing else; layout, read and write need no other code at all. It is position independent, and all its data is
+ *   read-only. Code and data together have some 60 kilobytes linked whole, and some 31 kilobytes in a program that calls
  *   layout, read and write alone and is linked with -Wl,--gc-sections.
  * - As that convention allows, a call uses the 128 bytes below the stack pointer and the SSE registers. An interrupt handler
  *   that interrupts a call, or makes one, has to leave both as it found them.
