@@ -48,8 +48,7 @@ fn check_lengths(mut lengths: Vec<usize>) {
     assert_eq!(large[1..4], [17 + 65_537, 17 + 65_537, 17 + 65_536]);
     assert_eq!(large[4..], [9 + 65_536, 9 + 65_537]);
     assert!((60_000..17 + 65_537).contains(&large[0]));
-    // The longest has a list of 128 layouts with 16 ranges of nine bytes each.
-    assert!(lengths.iter().all(|length| *length < 20_000));
+    assert!(lengths.iter().all(|length| *length < 16_000));
     assert!(lengths.iter().sum::<usize>() / lengths.len() < 180);
 }
 

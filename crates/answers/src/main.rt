@@ -53,7 +53,7 @@ fn main(rt: HostRuntime) {
 }
 
 // How far a stream is answered. What is not yet written of the text stands in the output before a place.
-#[derive(Drop)]
+#[derive(Clone, Copy)]
 struct State {
     window: Window,
     place: usize,

@@ -33,7 +33,7 @@ pub fn least_factor(b: u64, need: u64) -> u64
 
 // The patterns of low + d groups: those of at most d written places, and those of d + 1 before the value of the last is chosen. Those go up by `scale`,
 // b values for each of low + d + 1 groups, over d + 2.
-#[derive(Drop)]
+#[derive(Clone, Copy)]
 struct Sum {
     all: u64,
     more: u64,

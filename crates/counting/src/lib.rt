@@ -134,7 +134,7 @@ fn four(n: u64) -> u64
 }
 
 // A sum of patterns and its last term.
-#[derive(Drop)]
+#[derive(Clone, Copy)]
 struct Partial {
     term: u64,
     sum: u64,

@@ -124,7 +124,7 @@ fn put_two(values: &mut [u8; PATTERN_MOST], i: usize, e: u64, part: u64, z: u64)
 const STRIDE: u64 = 6;
 
 // A label and its binomial.
-#[derive(Drop)]
+#[derive(Clone, Copy)]
 struct Reach {
     label: u64,
     fit: u64,
@@ -197,7 +197,7 @@ fn leap(label: u64, fit: u64, left: u64, r: u64) -> Reach
 }
 
 // k written places, b^k, the count of patterns that have as many, and what is left of a number behind those with fewer.
-#[derive(Drop)]
+#[derive(Clone, Copy)]
 struct Passing {
     k: u64,
     power: u64,

@@ -10,7 +10,7 @@ use records::Said;
 use shapes::Outline;
 
 // The layout of the last record: what that said of it, and its plan. Its ranges and counts stand in arrays beside it.
-#[derive(Drop)]
+#[derive(Clone, Copy)]
 pub struct Kept {
     pub said: Said,
     pub plan: Plan,

@@ -29,14 +29,14 @@ pub const DUMP_MOST: usize = 65536;
 const LAYOUTS_MOST: usize = records::list::LAYOUTS_MOST;
 
 // Why a walk stops before the end: a malformed record, whose first byte stands at the offset, or more bytes than a dump may have.
-#[derive(Drop)]
+#[derive(Clone, Copy)]
 pub enum Halt {
     Malformed { offset: usize },
     Oversize,
 }
 
 // A halt in numbers: its refusal, and the offset that it carries, or 0.
-#[derive(Drop)]
+#[derive(Clone, Copy)]
 pub struct HaltFields {
     pub refusal: u64,
     pub offset: u64,
@@ -58,7 +58,7 @@ pub fn flat_halt(halt: Halt) -> HaltFields
 }
 
 // A dump at its front: where its records begin, behind so many layouts, or why it has none.
-#[derive(Drop)]
+#[derive(Clone, Copy)]
 pub enum Opened {
     Records { start: usize, layouts: usize },
     Barred(Halt),
@@ -123,7 +123,7 @@ pub struct Record {
     pub count: usize,
 }
 
-#[derive(Drop)]
+#[derive(Clone, Copy)]
 pub enum Step {
     // The record's cells are a part of the dump: `records::part` gives them.
     Record { record: Record, outcome: Reading },
@@ -132,7 +132,7 @@ pub enum Step {
 }
 
 // What stands at a place: the head of a record, the end, or why the walk stops.
-#[derive(Drop)]
+#[derive(Clone, Copy)]
 pub enum Located {
     Record(Head),
     End,
@@ -210,7 +210,7 @@ pub fn step_at(dump: &[u8], kind: Kind, at: usize) -> Step
     }
 }
 
-#[derive(Drop)]
+#[derive(Clone, Copy)]
 pub struct Stepped {
     pub step: Step,
     pub kept: Kept,

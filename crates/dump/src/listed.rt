@@ -10,7 +10,7 @@ use code::{Kind, Shape, refusals};
 
 // A listed layout. Refused, all its numbers are 0.
 #[repr(C)]
-#[derive(Drop)]
+#[derive(Clone, Copy)]
 pub struct ListedShape {
     pub refusal: u64,
     pub shape: Shape,

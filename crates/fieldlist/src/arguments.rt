@@ -6,7 +6,7 @@ ghost use Rattle.code.specs.Lists.{ascii};
 use code::Kind;
 use std::env::{Env, FillError};
 
-#[derive(Drop)]
+#[derive(Clone, Copy)]
 pub enum Asked {
     // The listing of a dump of this kind.
     Listing(Kind),

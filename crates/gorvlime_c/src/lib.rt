@@ -60,7 +60,7 @@ pub extern "C" fn gorvlime_write_many(s: Shape, cells: &mut [u8], numbers: &[u64
 }
 
 #[repr(C)]
-#[derive(Drop)]
+#[derive(Clone, Copy)]
 pub struct MadeAnswer {
     pub refusal: u64,
     pub length: u64,
@@ -137,7 +137,7 @@ pub extern "C" fn gorvlime_export(
 }
 
 #[repr(C)]
-#[derive(Drop)]
+#[derive(Clone, Copy)]
 pub struct StepAnswer {
     pub refusal: u64,
     pub offset: u64,
@@ -157,7 +157,7 @@ pub struct StepAnswer {
 }
 
 #[repr(C)]
-#[derive(Drop)]
+#[derive(Clone, Copy)]
 pub struct NewStepAnswer {
     pub refusal: u64,
     pub offset: u64,
@@ -279,7 +279,7 @@ pub extern "C" fn gorvlime_step_new(bytes: &[u8], at: usize) -> NewStepAnswer
 }
 
 #[repr(C)]
-#[derive(Drop)]
+#[derive(Clone, Copy)]
 pub struct OpenAnswer {
     pub refusal: u64,
     pub offset: u64,
@@ -340,7 +340,7 @@ pub extern "C" fn gorvlime_walk_new(bytes: &[u8], at: usize, rows: &mut [u64]) -
 }
 
 #[repr(C)]
-#[derive(Drop)]
+#[derive(Clone, Copy)]
 pub struct MovedAnswer {
     pub refusal: u64,
     pub offset: u64,

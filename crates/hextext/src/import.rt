@@ -89,7 +89,7 @@ fn is_end(line: &[u8]) -> bool
     true
 }
 
-#[derive(Drop)]
+#[derive(Clone, Copy)]
 pub enum Spelling {
     Unspelled,
     Whole(usize),
@@ -114,14 +114,14 @@ fn sum_spelled(line: &[u8], n: usize) -> Spelling
 }
 
 // A line of the right shape: the count of its data, what its bytes add up to, and its characters with its end.
-#[derive(Drop)]
+#[derive(Clone, Copy)]
 pub struct Line {
     pub count: usize,
     pub sum: usize,
     pub size: usize,
 }
 
-#[derive(Drop)]
+#[derive(Clone, Copy)]
 pub enum LineShape {
     Bad,
     Good(Line),
@@ -159,7 +159,7 @@ fn tell_shape(line: &[u8]) -> LineShape
     }
 }
 
-#[derive(Drop)]
+#[derive(Clone, Copy)]
 pub enum LineTested {
     // The count of data bytes, and the characters of the line.
     Data { count: usize, size: usize },
@@ -239,7 +239,7 @@ fn test_line(line: &[u8], done: usize) -> LineTested
     }
 }
 
-#[derive(Drop)]
+#[derive(Clone, Copy)]
 pub enum Checked {
     Wrong(u64),
     // The count of the bytes.

@@ -17,7 +17,7 @@ use reading::{Found, Refusal};
 use shapes::Outline;
 
 // Yes with the new number, or no; or the refusal of one of the fields.
-#[derive(Drop)]
+#[derive(Clone, Copy)]
 pub enum Judged {
     Right(u64),
     Wrong,
@@ -26,7 +26,7 @@ pub enum Judged {
 
 // The same in numbers, 0 for those that it lacks.
 #[repr(C)]
-#[derive(Drop)]
+#[derive(Clone, Copy)]
 pub struct JudgeFields {
     pub refusal: u64,
     pub yes: u64,
@@ -36,7 +36,7 @@ pub struct JudgeFields {
 }
 
 // The place of the generation that is due after a reading, or the refusal that is left to it. Behind the last generation none is.
-#[derive(Drop)]
+#[derive(Clone, Copy)]
 enum Due {
     At(usize),
     Refused(Refusal),
@@ -117,7 +117,7 @@ fn is_wiped(before: &[u64; 16], after: &[u64; 16], n: usize, m: usize, place: us
 }
 
 // What the cells after a write are answered for that was due at a place, on the groups in the first n words of `before`.
-#[derive(Drop)]
+#[derive(Clone, Copy)]
 struct Before {
     n: usize,
     place: usize,

@@ -15,7 +15,7 @@ use shapes::Outline;
 
 // Refusal 0: granted, with the counts h_1 .. h_t from place 0 on and 0 behind them. Else the refusal's number, and 0 throughout.
 #[repr(C)]
-#[derive(Drop)]
+#[derive(Clone, Copy)]
 pub struct Layout {
     pub refusal: u64,
     pub h: [u64; 16],
@@ -37,7 +37,7 @@ fn refuse(h: &mut [u64; 16]) -> u64
 }
 
 // What a climb is to reach, and the cut for it.
-#[derive(Drop)]
+#[derive(Clone, Copy)]
 struct Goal {
     need: u64,
     cut: u64,

@@ -157,7 +157,7 @@ pub fn put_record_line(out: &mut Text, at: usize, row: &[u64], s: Shape, reply: 
 
 // What became of the fields of a write of many numbers: whether it stopped, and at which; of so many the generation and, 64 places behind it, how many wits
 // turned.
-#[derive(Drop)]
+#[derive(Clone, Copy)]
 pub struct Outcomes {
     pub stopped: u64,
     pub field: u64,

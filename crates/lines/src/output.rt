@@ -8,7 +8,7 @@ use std::io::Stdout;
 pub const TEXT_MOST: usize = 8192;
 
 // Standard output, and the bytes of the text that is gathered for it.
-#[derive(Drop)]
+#[derive(Clone, Copy)]
 pub struct Text {
     pub stdout: Stdout,
     pub bytes: [u8; TEXT_MOST],

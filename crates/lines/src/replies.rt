@@ -13,7 +13,7 @@ use walking::Walked;
 use writing::Writing;
 
 // So many numbers, with 0 behind them.
-#[derive(Drop)]
+#[derive(Clone, Copy)]
 pub struct Reply {
     pub count: usize,
     pub numbers: [u64; 4],

@@ -17,7 +17,7 @@ use reading::Reading;
 pub const LINES_MOST: usize = 84;
 
 // How far a listing is told: where the next step starts, the records before it, and whether all is told.
-#[derive(Drop)]
+#[derive(Clone, Copy)]
 pub struct Listing {
     pub next: usize,
     pub count: u64,
@@ -57,7 +57,7 @@ fn close(s: Listing) -> Listing
 }
 
 // What is told is the output up to `end`.
-#[derive(Drop)]
+#[derive(Clone, Copy)]
 pub struct Told {
     pub listing: Listing,
     pub end: usize,

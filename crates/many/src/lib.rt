@@ -31,7 +31,7 @@ pub struct Many {
 }
 
 // How the writes ended: the numbers of the answer before its two rows.
-#[derive(Drop)]
+#[derive(Clone, Copy)]
 struct End {
     refusal: u64,
     stopped: u64,

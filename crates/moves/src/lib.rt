@@ -23,7 +23,7 @@ use records::Head;
 const LAYOUTS_MOST: usize = records::list::LAYOUTS_MOST;
 
 // What a move comes to.
-#[derive(Drop)]
+#[derive(Clone, Copy)]
 pub enum Moved {
     // The length of the moved dump, which stands at the front of the output.
     Stored(usize),

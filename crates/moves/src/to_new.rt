@@ -21,7 +21,7 @@ use records::{Head, Said};
 const KEPT_MOST: usize = 4 * LAYOUTS_MOST;
 
 // What the first pass comes to: the length of all records moved and the count of their layouts, or why the walk stops.
-#[derive(Drop)]
+#[derive(Clone, Copy)]
 pub enum Collected {
     Whole { total: usize, layouts: usize },
     Stopped(Halt),

@@ -17,7 +17,7 @@ use dump::{Halt, Located};
 use records::{Head, Said};
 
 // What the first pass comes to: the length of all records moved, or why the walk stops.
-#[derive(Drop)]
+#[derive(Clone, Copy)]
 pub enum Measured {
     Whole(usize),
     Stopped(Halt),

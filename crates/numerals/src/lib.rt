@@ -7,7 +7,7 @@ ghost use Rattle.code.specs.Numerals.{sevens, read_sevens, numerals_of, read_num
 ghost use Rattle.storing.specs.Put.{Put};
 ghost use Rattle.numerals.specs.Number.{number_of, numbers_of};
 
-#[derive(Drop)]
+#[derive(Clone, Copy)]
 pub enum Number {
     Found { value: u64, next: usize },
     Malformed,
@@ -90,7 +90,7 @@ pub fn write_number(out: &mut [u8], at: usize, x: u64) -> usize
 }
 
 // Numbers one after the other: the place behind them.
-#[derive(Drop)]
+#[derive(Clone, Copy)]
 pub enum Numbers {
     Read { end: usize },
     Cut,

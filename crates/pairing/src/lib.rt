@@ -16,14 +16,14 @@ use reading::{Found, Reading, Refusal};
 use shapes::Outline;
 use writing::Writing;
 
-#[derive(Drop)]
+#[derive(Clone, Copy)]
 pub enum PairReading {
     Read { number: u64, left: u64 },
     Refused(Refusal),
 }
 
 // The field that was written is 0 or 1.
-#[derive(Drop)]
+#[derive(Clone, Copy)]
 pub enum PairWriting {
     Written {
         field: u64,
@@ -35,7 +35,7 @@ pub enum PairWriting {
 
 // A reading of a pair or its refusal in numbers, 0 for those that it lacks.
 #[repr(C)]
-#[derive(Drop)]
+#[derive(Clone, Copy)]
 pub struct PairReadFields {
     pub refusal: u64,
     pub number: u64,
@@ -46,7 +46,7 @@ pub struct PairReadFields {
 
 // A write of a pair or its refusal in numbers, 0 for those that it lacks.
 #[repr(C)]
-#[derive(Drop)]
+#[derive(Clone, Copy)]
 pub struct PairWriteFields {
     pub refusal: u64,
     pub field: u64,
@@ -56,7 +56,7 @@ pub struct PairWriteFields {
 }
 
 // What a field of a pair tells: how many of its generations are used and its number, both 0 where it is blank; or its refusal.
-#[derive(Drop)]
+#[derive(Clone, Copy)]
 enum Sight {
     Seen { used: u64, number: u64 },
     Refused(Refusal),
@@ -135,7 +135,7 @@ fn lay_second(p: Pair, h: &[u64; 16], v: &[u64; 16], counts: &mut [u64; 16]) -> 
 }
 
 // The first field's number and the writes left in it.
-#[derive(Drop)]
+#[derive(Clone, Copy)]
 struct Half {
     number: u64,
     left: u64,
@@ -215,7 +215,7 @@ fn tell_written(field: u64, writing: Writing) -> PairWriting
 }
 
 // A write that is due: the number, and of the first field the generations used and its number.
-#[derive(Drop)]
+#[derive(Clone, Copy)]
 struct Due {
     number: u64,
     used: u64,

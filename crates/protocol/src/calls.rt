@@ -87,14 +87,14 @@ pub struct Call {
 }
 
 // A call as far as it is read, and the last number of it.
-#[derive(Drop)]
+#[derive(Clone, Copy)]
 struct Numbered {
     call: Call,
     number: u64,
 }
 
 // A call as far as it is read, and the last numbers of it.
-#[derive(Drop)]
+#[derive(Clone, Copy)]
 struct Spanned {
     call: Call,
     span: Span,

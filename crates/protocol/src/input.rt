@@ -7,7 +7,7 @@ use crate::calls::Call;
 use std::io::{Read, Stdin};
 
 // What is read and not yet answered stands from `at` to `end`; where the input has ended, that is all.
-#[derive(Drop)]
+#[derive(Clone, Copy)]
 pub struct Window {
     pub at: usize,
     pub end: usize,
@@ -15,7 +15,7 @@ pub struct Window {
 }
 
 // The next call, its bytes, from `start` to `end` of the buffer, and what stands behind it, unless the stream is over.
-#[derive(Drop)]
+#[derive(Clone, Copy)]
 pub struct Next {
     pub call: Call,
     pub start: usize,

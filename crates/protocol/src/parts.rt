@@ -72,7 +72,7 @@ pub fn count_in_front(code: u8) -> usize
 }
 
 // The numbers in front by what they are, 0 for those that a call lacks; of a pair t and v are those of its first field.
-#[derive(Drop)]
+#[derive(Clone, Copy)]
 pub struct Front {
     pub serial: u64,
     pub layout: u64,

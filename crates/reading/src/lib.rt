@@ -18,14 +18,14 @@ use shapes::Outline;
 use words::Seen;
 
 // A refusal: its number alone, or 15 and 16 with what they carry.
-#[derive(Drop)]
+#[derive(Clone, Copy)]
 pub enum Refusal {
     Plain(u64),
     Miscounted { generation: u64, unerased: u64 },
     Beyond { generation: u64 },
 }
 
-#[derive(Drop)]
+#[derive(Clone, Copy)]
 pub enum Reading {
     Read {
         generation: u64,
@@ -36,7 +36,7 @@ pub enum Reading {
 }
 
 // The number of a refusal and what it carries, 0 for what it lacks.
-#[derive(Drop)]
+#[derive(Clone, Copy)]
 pub struct RefusalFields {
     pub number: u64,
     pub generation: u64,
@@ -45,7 +45,7 @@ pub struct RefusalFields {
 
 // A reading or its refusal in numbers, 0 for those that it lacks.
 #[repr(C)]
-#[derive(Drop)]
+#[derive(Clone, Copy)]
 pub struct ReadFields {
     pub refusal: u64,
     pub generation: u64,
@@ -55,7 +55,7 @@ pub struct ReadFields {
 }
 
 // What sound cells read as, and the reason where they have no number: the unerased groups are not as many as the generation has, or the number is beyond the range.
-#[derive(Drop)]
+#[derive(Clone, Copy)]
 pub enum Found {
     Blank,
     Number { generation: u64, number: u64 },
@@ -175,7 +175,7 @@ fn answer(found: Found, f: Outline) -> Reading
 }
 
 // Sound cells in n words: how many of their groups are zero, and what they read as.
-#[derive(Drop)]
+#[derive(Clone, Copy)]
 pub struct Look {
     pub n: usize,
     pub zeros: u64,

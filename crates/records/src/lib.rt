@@ -35,7 +35,7 @@ pub struct Head {
     pub count: usize,
 }
 
-#[derive(Drop)]
+#[derive(Clone, Copy)]
 pub enum HeadThere {
     Whole(Head),
     Malformed { offset: usize },

@@ -13,14 +13,14 @@ use shapes::Outline;
 pub const LAYOUTS_MOST: usize = 64;
 
 // Where the records begin, behind so many layouts.
-#[derive(Drop)]
+#[derive(Clone, Copy)]
 pub enum LayoutList {
     Whole { start: usize, count: usize },
     Broken,
 }
 
 // The layout at a place but for its ranges, and the place behind it.
-#[derive(Drop)]
+#[derive(Clone, Copy)]
 enum LayoutThere {
     Whole { outline: Outline, end: usize },
     Broken,

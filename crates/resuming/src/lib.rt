@@ -19,7 +19,7 @@ use writing::Held;
 // The refusal, 0 where the number is written; then the generation, the wits turned, how many groups are all ones now and were not before, and a bit for each of
 // them: group j at bit j mod 64 of word j / 64.
 #[repr(C)]
-#[derive(Drop)]
+#[derive(Clone, Copy)]
 pub struct Resumed {
     pub refusal: u64,
     pub generation: u64,
@@ -41,7 +41,7 @@ fn refuse(refusal: u64) -> Resumed
 }
 
 // The place where cells without a reading are written, or the refusal that is left to them.
-#[derive(Drop)]
+#[derive(Clone, Copy)]
 enum Aim {
     At(usize),
     Refused(u64),

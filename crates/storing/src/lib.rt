@@ -5,7 +5,7 @@ ghost use Rattle.std.specs.Prelude.{[], ◌∷◌, ◌+◌, ◌<◌, ◌≤◌, 
 ghost use Rattle.storing.specs.Put.{Put};
 
 // What a call that stores into a lent output comes to.
-#[derive(Drop)]
+#[derive(Clone, Copy)]
 pub enum Made {
     // The length of what is stored.
     Stored(usize),

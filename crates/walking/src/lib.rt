@@ -16,7 +16,7 @@ use reading::{ReadFields, Reading};
 
 // Where a walk into rows stopped: the refusal and its offset, the rows filled, where the next step would start, and 1 where the end was reached.
 #[repr(C)]
-#[derive(Drop)]
+#[derive(Clone, Copy)]
 pub struct Walked {
     pub refusal: u64,
     pub offset: u64,
@@ -66,7 +66,7 @@ pub fn row_length(kind: Kind) -> usize
 }
 
 // A record in the rows of a walk.
-#[derive(Drop)]
+#[derive(Clone, Copy)]
 struct Row {
     numbers: [u64; ROW_MOST],
 }

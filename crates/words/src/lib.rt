@@ -172,7 +172,7 @@ pub fn gather(
 }
 
 // What is left of marks, and of how many they are to lose.
-#[derive(Drop)]
+#[derive(Clone, Copy)]
 struct Spared {
     left: u64,
     spare: u64,
@@ -218,7 +218,7 @@ pub fn erase(words: &mut [u64; 16], n: usize, m: usize, spare: u64, marks: &mut 
 }
 
 // A word after laying, and where the values for the next word start.
-#[derive(Drop)]
+#[derive(Clone, Copy)]
 struct Placed {
     word: u64,
     at: usize,

@@ -22,7 +22,7 @@ use code::{Dealing, Generation, PATTERN_MOST, Shape, refusals};
 use reading::{Found, Refusal};
 use shapes::Outline;
 
-#[derive(Drop)]
+#[derive(Clone, Copy)]
 pub enum Writing {
     Written { generation: u64, turned: u64 },
     Refused(Refusal),
@@ -30,7 +30,7 @@ pub enum Writing {
 
 // A write or its refusal in numbers, 0 for those that it lacks.
 #[repr(C)]
-#[derive(Drop)]
+#[derive(Clone, Copy)]
 pub struct WriteFields {
     pub refusal: u64,
     pub generation: u64,
@@ -39,7 +39,7 @@ pub struct WriteFields {
 }
 
 // Where a reading is written next, or the refusal that is left to it.
-#[derive(Drop)]
+#[derive(Clone, Copy)]
 enum Aim {
     At(usize),
     Refused(Refusal),
@@ -147,6 +147,7 @@ fn erase_and_lay(words: &mut [u64; 16], marks: &mut [u64; 16], f: Held, g: Gener
 }
 
 // The write of x at a generation on cells whose groups the words hold, which hold those of the written cells afterwards: how many wits it turns.
+#[inline(always)]
 pub fn write_at(
     cells: &mut [u8],
     words: &mut [u64; 16],

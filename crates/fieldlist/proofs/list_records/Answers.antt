@@ -15,6 +15,10 @@ hand_out-requires c = next-part c.loop-error.invariant.4 c.fill-told.ensures
 pub returns-then-s : goal.returns-then-s
 returns-then-s c q = handing-end (handing-next c.loop-error.invariant.4 c.fill-told.ensures) c.if-s.true
 
+-- a listing that stopped before its end is not said to be whole
+pub returns-in-Err : goal.returns-in-Err
+returns-in-Err c q = cc
+
 pub loop-error-preserved : goal.loop-error-preserved
 loop-error-preserved c =
     let f = c.fill-told.ensures in
