@@ -53,10 +53,10 @@ def uses(source):
 @functools.lru_cache(maxsize=None)
 def passed_on(module):
     """Where the names come from that a page of the toolchain's only passes on."""
-    crate = re.fullmatch(r"Rattle\.(\w+)\.specs\.Prelude", module)
-    if not crate:
+    page = re.fullmatch(r"Rattle\.(\w+)\.(specs\.Prelude|proofs\.Common)", module)
+    if not page:
         return {}
-    with open(os.path.join(kit(), crate[1], "specs", "Prelude.antt"), encoding="utf-8") as file:
+    with open(os.path.join(kit(), page[1], *page[2].split(".")) + ".antt", encoding="utf-8") as file:
         return {alias: (module, name) for module, name, alias in uses(file.read())}
 
 
@@ -176,9 +176,20 @@ class Call:
         """What a theorem calls the type of an input, an exit or the answer."""
         name, _, part = word.partition("·")
         kind = self.answer if word == ANSWER else self.types[name]
-        if "[" in kind:
-            return "List ℕ"
-        return "ℕ" if part or kind in ("u64", "usize") else kind.split("::")[-1]
+        if part and not kind.startswith("&"):
+            return "ℕ"
+        return told_type(kind)
+
+
+def told_type(kind):
+    """What a theorem calls a type of the code, its tokens apart."""
+    generic = re.fullmatch(r"(Result|Option)<(.*)>", kind)
+    if generic:
+        inner = [told_type(part) for part in re.split(r", (?![^\[]*\])", generic[2])]
+        return " ".join([generic[1]] + ["( %s )" % part if " " in part else part for part in inner])
+    if "[" in kind:
+        return "List ℕ"
+    return "ℕ" if kind in ("u64", "usize") else kind.split("::")[-1]
 
 
 def unfolded(words, names):

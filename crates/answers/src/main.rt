@@ -23,97 +23,64 @@
 //    17 pair write                              form m t1 v1 t2 v2 number, first, second: pairwrite 0 field generation turned FIRST SECOND |
 //                                               pairwrite N FIRST SECOND
 //
-// SHAPE is form m t k v_1 .. v_k, where k counts the ranges. CELLS, FIRST, SECOND and OUT are the lent bytes afterwards in hex, left out where there are none. A stream
-// that can't be followed ends with `cut off`, `no such call` or `too long`.
+// SHAPE is form m t k v_1 .. v_k, where k counts the ranges. CELLS, FIRST, SECOND and OUT are the lent bytes afterwards in hex, left out where there are none.
+// A stream that can't be followed ends with `cut off`, `no such call` or `too long`.
 #![tactic(auto)]
 
 mod fields;
-mod pairs;
 mod stored;
 mod walks;
 
-ghost use Rattle.std.specs.Prelude.{◌≤◌, length};
-ghost use Rattle.protocol.specs.Bounds.{call_most, output_most, InBuffer};
-ghost use Rattle.lines.specs.Bounds.{text_most};
-
-use lines::output;
 use lines::output::Text;
-use protocol::calls::{Call, Operation};
-use protocol::input::{Buffer, Window};
-use protocol::{calls, input};
-use std::io::Stdin;
+use protocol::calls::{Broken, Call, Lent};
+use protocol::input;
+use protocol::input::Input;
+use std::fmt;
+use std::fmt::Write;
 
-fn main(rt: HostRuntime) {
+fn main(rt: HostRuntime) -> fmt::Result {
+    answer_all(Input::new(rt.stdin()), Text::new(rt.stdout()))
+}
+
+// A proved loop has to end, and nothing says that a stream does: the turns are counted, up to a number that no run uses up.
+fn answer_all(mut input: Input, mut text: Text) -> fmt::Result {
     let mut buffer = [0u8; input::BUFFER_MOST];
-    let mut out = Text {
-        stdout: rt.stdout(),
-        bytes: [0u8; output::TEXT_MOST],
-    };
-    answer_all(rt.stdin(), &mut buffer, &mut out);
-}
-
-// How far a stream is answered. What is not yet written of the text stands in the output before a place.
-#[derive(Clone, Copy)]
-struct State {
-    window: Window,
-    place: usize,
-    over: bool,
-}
-
-// A proved loop has to end, and nothing says that a stream does: the turns are counted down, from a number that no run uses up.
-fn answer_all(stdin: Stdin, buffer: &mut Buffer, out: &mut Text) {
-    let mut turns = u64::MAX;
-    let window = Window {
-        at: 0,
-        end: 0,
-        ended: false,
-    };
-    let mut s = State {
-        window,
-        place: 0,
-        over: false,
-    };
-    while 0 < turns && !s.over {
-        s = answer_next(stdin, buffer, s, out);
-        turns -= 1;
+    for _ in 0..u64::MAX {
+        let mut lent = Lent::new();
+        match input.next_call(&mut buffer, &mut lent) {
+            Ok(call) => answer(&mut text, call)?,
+            Err(Broken::Ended) => break,
+            Err(why) => {
+                writeln!(text, "{why}")?;
+                break;
+            }
+        }
     }
-    output::write_out(out.stdout, &out.bytes, s.place);
+    text.finish();
+    Ok(())
 }
 
-fn answer_next(stdin: Stdin, buffer: &mut [u8], s: State, out: &mut Text) -> State
-    requires { InBuffer s.window (length buffer.old) × (call_most ≤ length buffer.old) × (s.place ≤ text_most) }
-    ensures { InBuffer result.window (length buffer.new) × (result.place ≤ text_most) }
-{
-    let mut numbers = [0u64; calls::LISTED_MOST];
-    let next = input::next_call(stdin, buffer, s.window, &mut numbers);
-    let start = next.start;
-    let end = next.end;
-    let call = next.call;
-    let count = call.listed;
-    let place = answer(
-        call,
-        &mut buffer[start..end],
-        &numbers[0..count],
-        out,
-        s.place,
-    );
-    let window = next.rest;
-    State {
-        window,
-        place,
-        over: next.over,
-    }
-}
-
-fn answer(call: Call, bytes: &mut [u8], numbers: &[u64], out: &mut Text, at: usize) -> usize
-    requires { (call.room ≤ output_most) × (at ≤ text_most) × (call.first ≤ call.second) × (call.second ≤ length bytes.old) }
-    ensures { result ≤ text_most }
-{
-    let operation = call.operation;
-    match operation {
-        Operation::OnField(which) => fields::put_on_field(out, at, call, which, bytes, numbers),
-        Operation::Walk(kind) => walks::put_walk(out, at, kind, bytes),
-        Operation::Store(which) => stored::put_stored(out, at, call, which, bytes),
-        Operation::Broken(why) => lines::put_broken_line(out, at, why),
+fn answer(text: &mut Text, call: Call<'_>) -> fmt::Result {
+    match call {
+        Call::Layout(shape, g) => fields::put_layout(text, shape, g),
+        Call::Read(shape, cells) => fields::put_read(text, shape, cells),
+        Call::Write(shape, number, cells) => fields::put_write(text, shape, number, cells),
+        Call::Export(record, output, cells) => stored::put_export(text, record, cells, output),
+        Call::Walk(kind, dump) => walks::put_walk(text, kind, dump),
+        Call::HexExport(output, bytes) => stored::put_hex(text, bytes, output),
+        Call::HexImport(output, bytes) => stored::put_unhex(text, bytes, output),
+        Call::MoveToNew(output, dump) => stored::put_new(text, dump, output),
+        Call::MoveToOld(output, dump) => stored::put_old(text, dump, output),
+        Call::ExportLayout(shape, output) => stored::put_listed(text, shape, output),
+        Call::ExportRecord(record, output, cells) => stored::put_record(
+            text, record, cells, output,
+        ),
+        Call::WriteMany(shape, numbers, cells) => fields::put_many(text, shape, numbers, cells),
+        Call::Judge(shape, before, after) => fields::put_judge(text, shape, before, after),
+        Call::Resume(shape, number, cells) => fields::put_resume(text, shape, number, cells),
+        Call::ReadPair(pair, first, second) => fields::put_pair_read(text, pair, first, second),
+        Call::WritePair(pair, number, first, second) => {
+            fields::put_pair_write(text, pair, number, first, second)
+        }
     }
 }

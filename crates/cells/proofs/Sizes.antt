@@ -1,7 +1,7 @@
 -- The sizes of words and of buffers.
 use mathlib.Core.Path.{◌≡◌, sym}
 use mathlib.Core.List.{List}
-use Prim.Native.Nat.{ℕ, ◌+◌, ◌*◌, ◌≤◌, ◌<◌}
+use Prim.Native.Nat.{ℕ, suc, ◌+◌, ◌*◌, ◌≤◌, ◌<◌}
 use native.Mathlib.Omega.{arith}
 use native.Mathlib.Decide.{dec_lt}
 use native.Mathlib.Numerals.{add-one}
@@ -53,3 +53,10 @@ module _ {m h : ℕ} {bs : List ℕ} (S : Storable m h bs) where
 -- in wits
 pub wits-at : {m h n size i at : ℕ} → Sizes m h n size i at → 8 * at ≡ 8 * size * i
 wits-at {m} {h} {n} {size} {i} Z = rw Z.start (sym (mul_assoc 8 size i))
+
+-- the words before the last end before the end, and each starts a word further
+pub before-last : (size i last n : ℕ) → i < last → size * last < n → size * i + size < n
+before-last size i last n h l = omega (arith, mul-le-mul_left {m = suc i} {n = last} size h, mul-suc size i)
+
+pub word-further : (size i : ℕ) → size * (i + 1) ≡ size * i + size
+word-further size i = rw (add-one i, mul-suc size i) (omega arith)

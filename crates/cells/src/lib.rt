@@ -86,10 +86,8 @@ fn few_bytes(cells: &[u8], order: u64, at: usize) -> u64
 {
     let end = at + bytes_ahead(cells, at);
     let mut x = octet(order, wide(cells[at]));
-    let mut i = at + 1;
-    while i < end {
-        x = x * 256 + octet(order, wide(cells[i]));
-        i += 1;
+    for cell in &cells[at + 1..end] {
+        x = x * 256 + octet(order, wide(*cell));
     }
     x << (8 * (at + 8 - end))
 }
@@ -127,6 +125,14 @@ fn span(m: usize) -> usize
     if m == 3 { 6 } else { 8 }
 }
 
+// How many words stand before the last of n bytes.
+fn words_before(n: usize, m: usize) -> usize
+    requires { 0 < n }
+    ensures { (Words.word_bytes m * result < n) × (n ≤ Words.word_bytes m * result + Words.word_bytes m) }
+{
+    if m == 3 { (n - 1) / 6 } else { (n - 1) / 8 }
+}
+
 // The word of so many bytes from byte `at` on.
 fn any_word(cells: &[u8], order: u64, at: usize, size: usize) -> u64
     requires { (at < length cells.now) × (length cells.now ≤ 128) × (6 ≤ size) × (size ≤ 8) }
@@ -157,15 +163,13 @@ pub fn load(cells: &[u8], order: u64, m: usize, h: usize, words: &mut [u64; 16])
     ensures { Cells.Loaded order m h cells.now words.new result }
 {
     let size = span(m);
-    let mut i = 0;
-    let mut at = 0;
-    while at + size < cells.len() {
-        words[i] = word(cells, order, at, size);
-        at += size;
-        i += 1;
+    let last = words_before(cells.len(), m);
+    for i in 0..last {
+        words[i] = word(cells, order, size * i, size);
     }
-    words[i] = any_word(cells, order, at, size) | low_ones(8 * (at + size) - m * h);
-    i + 1
+    let at = size * last;
+    words[last] = any_word(cells, order, at, size) | low_ones(8 * (at + size) - m * h);
+    last + 1
 }
 
 // Puts the last byte of x at byte i; and the last two, four and eight from byte i on, with the high bit first. Eight are compiled to one store.
@@ -207,10 +211,8 @@ fn put_part(cells: &mut [u8], order: u64, at: usize, x: u64)
 {
     let end = at + bytes_ahead(cells, at);
     put_one(cells, order, at, x >> 56);
-    let mut i = at + 1;
-    while i < end {
+    for i in at + 1..end {
         put_one(cells, order, i, x >> (8 * (at + 7 - i)));
-        i += 1;
     }
 }
 
@@ -312,13 +314,11 @@ pub fn store(cells: &mut [u8], order: u64, m: usize, h: usize, words: &[u64; 16]
     ensures { Cells.Stored order m (take h (Words.all_groups m (Words.word_groups m) words.now)) cells.old cells.new result }
 {
     let size = span(m);
+    let last = words_before(cells.len(), m);
     let mut n: u64 = 0;
-    let mut i = 0;
-    let mut at = 0;
-    while at + size < cells.len() {
-        n += swap_word(cells, order, at, size, words[i]);
-        at += size;
-        i += 1;
+    for i in 0..last {
+        n += swap_word(cells, order, size * i, size, words[i]);
     }
-    n + swap(cells, order, at, size, words[i], 8 * (at + size) - m * h)
+    let at = size * last;
+    n + swap(cells, order, at, size, words[last], 8 * (at + size) - m * h)
 }

@@ -35,47 +35,52 @@ pub fn least_factor(b: u64, need: u64) -> u64
 // b values for each of low + d + 1 groups, over d + 2.
 #[derive(Clone, Copy)]
 struct Sum {
+    d: u64,
     all: u64,
     more: u64,
     scale: u64,
 }
 
 // One place up, by Pascal's rule; low stands here for the promise.
-fn grow(b: u64, low: u64, d: u64, s: Sum) -> Sum
+fn grow(b: u64, low: u64, s: Sum) -> Sum
     requires b_nonzero { (0 < b) × (low ≤ 255) × ((s.all + s.more) * b < cap) }
-    requires climbed { Climbed b low d s.all s.more s.scale }
-    ensures { Climbed b low (d + 1) result.all result.more result.scale }
+    requires climbed { Climbed b low s.d s.all s.more s.scale }
+    ensures { (result.d ≡ s.d + 1) × Climbed b low result.d result.all result.more result.scale }
 {
     let all = s.all + (s.all + s.more) * b;
-    let more = s.more * s.scale / (d + 2);
+    let more = s.more * s.scale / (s.d + 2);
     let scale = s.scale + b;
-    Sum { all, more, scale }
+    let d = s.d + 1;
+    Sum {
+        d,
+        all,
+        more,
+        scale,
+    }
 }
 
 // Where d places above low do not reach need, one more does.
-fn reached(low: u64, d: u64, all: u64, need: u64) -> u64
-    requires { (low ≤ 255) × (d ≤ cap) }
-    ensures { (all < need → result ≡ low + d + 1) × (need ≤ all → result ≡ low + d) }
+fn reached(low: u64, need: u64, s: Sum) -> u64
+    requires { (low ≤ 255) × (s.d ≤ cap) }
+    ensures { (s.all < need → result ≡ low + s.d + 1) × (need ≤ s.all → result ≡ low + s.d) }
 {
-    if all < need {
-        return low + d + 1;
+    if s.all < need {
+        return low + s.d + 1;
     }
-    low + d
+    low + s.d
 }
 
-// The climb from `from` places above low on. Equal ranges take at most 15 places.
-fn climb_on(b: u64, low: u64, need: u64, cut: u64, start: Sum, from: u64) -> u64
+// The climb from a sum on. Equal ranges take at most 15 places.
+fn climb_on(b: u64, low: u64, need: u64, cut: u64, start: Sum) -> u64
     requires asked { Asked b low need cut }
-    requires climbed { (Climbed b low from start.all start.more start.scale) × Short b low need from }
+    requires climbed { (Climbed b low start.d start.all start.more start.scale) × Short b low need start.d }
     ensures { Least (held b 0 low) need low result }
 {
     let mut s = start;
-    let mut d = from;
     while s.all + s.more < cut {
-        s = grow(b, low, d, s);
-        d += 1;
+        s = grow(b, low, s);
     }
-    reached(low, d, s.all, need)
+    reached(low, need, s)
 }
 
 // The least count above low that has need patterns with low groups zero, the one with no written place among them.
@@ -84,18 +89,17 @@ pub fn climb(b: u64, low: u64, need: u64, cut: u64) -> u64
     ensures { Least (held b 0 low) need low result }
 {
     let mut s = Sum {
+        d: 0,
         all: 1,
         more: low,
         scale: (low + 1) * b,
     };
-    let mut d: u64 = 0;
     // So few turns are laid out one behind the other by the compiler, and each divides by a constant.
-    while d < 16 {
+    for _ in 0..16 {
         if cut <= s.all + s.more {
-            return reached(low, d, s.all, need);
+            return reached(low, need, s);
         }
-        s = grow(b, low, d, s);
-        d += 1;
+        s = grow(b, low, s);
     }
-    climb_on(b, low, need, cut, s, d)
+    climb_on(b, low, need, cut, s)
 }

@@ -55,9 +55,9 @@ module _ (text out : List ℕ) where
   abbrev pub HexImports : List ℕ → List ℕ → Type 0
   HexImports reply after = (reply ≡ hex_import_reply text out) × (after ≡ hex_import_leaves text out)
 
-  pub import-faulty : (k : ℕ) → hex_import text ≡ faulty (k ∷ []) → HexImports (k ∷ []) out
+  pub import-faulty : (k : ℕ) (carried : List ℕ) → hex_import text ≡ faulty (k ∷ carried) → HexImports (k ∷ carried) out
   unfolding import_refusal hex_import_reply hex_import_leaves answer leaves
-  import-faulty k h = (rw h, rw h)
+  import-faulty k carried h = (rw h, rw h)
 
   module _ (bytes : List ℕ) (h : hex_import text ≡ gives bytes) where
     pub import-short : length out < length bytes → HexImports (9 ∷ []) out

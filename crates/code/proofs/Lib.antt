@@ -1,3 +1,4 @@
+pub mod Refused
 pub mod Agreed
 pub mod Tests
 pub mod Count

@@ -1,5 +1,6 @@
 pub mod Count
 pub mod Lists
+pub mod Refusals
 pub mod Layout
 pub mod Shape
 pub mod Deal

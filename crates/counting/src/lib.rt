@@ -52,30 +52,27 @@ fn half(n: u64, e: u64) -> u64
         return closed(n, e);
     }
     let mut c = closed(n, 8);
-    let mut j: u64 = 8;
-    while j + 1 < e {
+    for i in 4..e / 2 {
+        let j = 2 * i;
         if WIDE <= c {
             return onward(n, e, c, j);
         }
         c = c * pair(n - j) / ((j + 1) * (j + 2));
-        j += 2;
     }
-    onward(n, e, c, j)
+    onward(n, e, c, e - e % 2)
 }
 
-// C(n, e) from c = C(n, j): C(n, j + 1) is C(n, j) · (n − j) / (j + 1).
-fn onward(n: u64, e: u64, c: u64, j: u64) -> u64
-    requires { (n ≤ 256) × (e ≤ n - e) × (0 < j) × (j ≤ e) × (c ≡ choose n j) }
+// C(n, e) from c = C(n, from): C(n, j + 1) is C(n, j) · (n − j) / (j + 1).
+fn onward(n: u64, e: u64, c: u64, from: u64) -> u64
+    requires { (n ≤ 256) × (e ≤ n - e) × (0 < from) × (from ≤ e) × (c ≡ choose n from) }
     ensures { result ≡ sat (choose n e) }
 {
     let mut c = c;
-    let mut j = j;
-    while j < e {
+    for j in from..e {
         if CAP <= c {
             return CAP;
         }
         c = c * (n - j) / (j + 1);
-        j += 1;
     }
     clip(c)
 }
@@ -174,13 +171,11 @@ fn fewer_on(b: u64, first: u64, s: u64, k: u64, start: Partial, from: u64) -> u6
     ensures { result ≡ sat (fewer b s first k) }
 {
     let mut p = start;
-    let mut j = from;
-    while j + 1 < k {
+    for j in from..k - 1 {
         p = add_next(b, s, j, p);
         if CAP <= p.sum {
             return CAP;
         }
-        j += 1;
     }
     p.sum
 }
@@ -201,9 +196,8 @@ pub fn fewer(b: u64, first: u64, s: u64, k: u64) -> u64
         term,
         sum: 1 - first + term,
     };
-    let mut j: u64 = 1;
     // So few turns are laid out one behind the other by the compiler, and each divides by a constant.
-    while j < 16 {
+    for j in 1..16 {
         if k <= j + 1 {
             return p.sum;
         }
@@ -211,9 +205,8 @@ pub fn fewer(b: u64, first: u64, s: u64, k: u64) -> u64
         if CAP <= p.sum {
             return CAP;
         }
-        j += 1;
     }
-    fewer_on(b, first, s, k, p, j)
+    fewer_on(b, first, s, k, p, 16)
 }
 
 // The term at j + 1, from that at j: C(s, j + 1) · b^(j + 1).

@@ -78,9 +78,6 @@ module _ (b k d : ℕ) (l : List ℕ) (h : k ≤ length l) where
   many : length (take k l) ≡ k
   many = length-take-le k l h
 
-  pub read-begin : Reading b k d l 0 d
-  read-begin = record { to = omega arith; whole = rw many }
-
   module _ (i x : ℕ) (R : Reading b k d l i x) where
     pub read-end : k ≤ i → x ≡ d * b ^ k + plain b (take k l)
     read-end g = omega (arith, R.whole, plain_end b (take k l) i x (omega (arith, R.to, many)))

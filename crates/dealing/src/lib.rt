@@ -41,6 +41,7 @@ pub fn number(
 
 // "chosen labels i_1 > .. > i_k give C(i_1, k) + C(i_2, k − 1) + .. + C(i_k, 1)", for the labels from `at` on, of which `left` are left. Each binomial is at
 // most the cap, and a sum of 36 fits 64 bits.
+// It is a recursion since document 01 asks for one (docs/DECISIONS.md, 14).
 fn rank_from(labels: &[u8; PATTERN_MOST], at: usize, left: u64) -> u64
     requires { (length labels.now ≡ pattern_most) × (at + left ≤ pattern_most) × (left ≤ 36) }
     ensures { (sat result ≡ sat (ranked (take left (drop at labels.now)))) × (result ≤ left * cap) }
@@ -58,16 +59,14 @@ fn read_on(values: &[u8; PATTERN_MOST], k: usize, b: u64, d: u64) -> u64
 {
     let square = b * b;
     let mut x = d;
-    let mut i = 0;
-    while i + 1 < k {
-        x = x * square + two(values, i, b);
+    for i in 0..k / 2 {
+        x = x * square + two(values, 2 * i, b);
         if counting::CAP <= x {
             return counting::CAP;
         }
-        i += 2;
     }
-    if i < k {
-        return counting::clip(x * b + wide(values[i]));
+    if k % 2 == 1 {
+        return counting::clip(x * b + wide(values[k - 1]));
     }
     x
 }
@@ -99,13 +98,11 @@ pub fn plainly(values: &mut [u8; PATTERN_MOST], s: usize, e: u64, x: u64)
     let square = e * e;
     let part = UNIT / e + 1;
     let mut x = x;
-    let mut i = s;
-    while 1 < i {
-        i -= 2;
-        put_two(values, i, e, part, x % square);
+    for i in (0..s / 2).rev() {
+        put_two(values, s % 2 + 2 * i, e, part, x % square);
         x /= square;
     }
-    if i == 1 {
+    if s % 2 == 1 {
         values[0] = (x % e) as u8;
     }
 }
@@ -131,37 +128,33 @@ struct Reach {
 }
 
 // "The way back goes group by group, from the highest label down": the labels of k written places of rank r among s places. The last label is what is left
-// of the rank.
+// of the rank. A search in a loop that yields by `break` is the form that document 01 names for it (docs/MAP.md).
 fn unrank(labels: &mut [u8; PATTERN_MOST], s: u64, k: u64, r: u64)
     requires labels_len { length labels.old ≡ pattern_most }
     requires s_bound { (s ≤ 256) × (0 < k) × (k ≤ pattern_most) × (r < cap) × (r < choose s k) }
     ensures { (take k labels.new ≡ unranked s k r) × (length labels.new ≡ pattern_most) }
 {
-    let top = settle(s, k);
-    let mut label = top.label;
-    let mut fit = top.fit;
-    let mut left = k;
+    let mut near = settle(s, k);
     let mut r = r;
-    let mut at: usize = 0;
-    while 1 < left {
-        let near = leap(label, fit, left, r);
-        label = near.label;
-        fit = near.fit;
+    for left in (2..k + 1).rev() {
+        near = leap(near, left, r);
         let found = loop {
-            if fit <= r {
-                break label;
+            if near.fit <= r {
+                break near;
             }
-            fit = counting::lower(fit, label, left);
-            label -= 1;
+            near = Reach {
+                label: near.label - 1,
+                fit: counting::lower(near.fit, near.label, left),
+            };
         };
-        labels[at] = found as u8;
-        at += 1;
-        r -= fit;
-        fit = counting::inner(fit, found, left);
-        label = found - 1;
-        left -= 1;
+        labels[(k - left) as usize] = found.label as u8;
+        r -= found.fit;
+        near = Reach {
+            label: found.label - 1,
+            fit: counting::inner(found.fit, found.label, left),
+        };
     }
-    labels[at] = r as u8;
+    labels[(k - 1) as usize] = r as u8;
 }
 
 // The highest label whose binomial is below the cap. None above it fits.
@@ -179,21 +172,20 @@ fn settle(s: u64, k: u64) -> Reach
 }
 
 // Passes labels by that do not fit, a stride at a time.
-fn leap(label: u64, fit: u64, left: u64, r: u64) -> Reach
-    requires { (label ≤ 255) × Candidate left r label fit }
-    ensures { (result.label ≤ label) × Candidate left r result.label result.fit }
+fn leap(from: Reach, left: u64, r: u64) -> Reach
+    requires { (from.label ≤ 255) × Candidate left r from.label from.fit }
+    ensures { (result.label ≤ from.label) × Candidate left r result.label result.fit }
 {
-    let mut label = label;
-    let mut fit = fit;
-    while STRIDE <= label {
-        let far = counting::binomial(label - STRIDE, left);
-        if far <= r {
-            break;
+    let mut near = from;
+    while STRIDE <= near.label {
+        let label = near.label - STRIDE;
+        let fit = counting::binomial(label, left);
+        if fit <= r {
+            return near;
         }
-        label -= STRIDE;
-        fit = far;
+        near = Reach { label, fit };
     }
-    Reach { label, fit }
+    near
 }
 
 // k written places, b^k, the count of patterns that have as many, and what is left of a number behind those with fewer.
@@ -241,7 +233,7 @@ fn pass_fewer(s: u64, b: u64, fewest: u64, n: u64) -> Passing
         rest: n + fewest - 1,
     };
     // So few turns are laid out one behind the other by the compiler, and each divides by a constant.
-    while p.k < 16 {
+    for _ in 1..16 {
         if p.rest < p.term {
             return p;
         }

@@ -1,7 +1,6 @@
 -- The layout that a walk keeps, and what a record tells of its own.
 use Prim.Native.Nat.{ℕ, ◌^◌, ◌<◌}
 use mathlib.Core.Path.{◌≡◌, refl, ap, ◌∙◌}
-use mathlib.Core.Bool.{true, false, cond}
 use mathlib.Core.List.{List, [], ◌∷◌, ◌++◌}
 use native.Mathlib.Omega.{arith}
 use lib.ListN.{get_or, take, drop, replicate, get_or-eq_default}
@@ -12,14 +11,10 @@ use Rattle.shapes.specs.Outlines.{outlined}
 use Rattle.code.specs.Calls.{filled, layout_fields, layout_reply, read_reply}
 use Rattle.code.specs.LayoutList.{unlisted, listed_shape}
 use Rattle.code.specs.Dump.{Source, own_layouts, listed_layouts, listed_many, taken, cells_of, record_numbers, outcome, step_values}
-use Rattle.code.proofs.Tests.{clash}
 use Rattle.code.proofs.LayoutCall.{reply-outside}
-use Rattle.records.specs.declared.Said.{Said}
 use Rattle.records.specs.declared.Head.{Head}
 use Rattle.records.specs.Head.{said_shape, head_record}
 use Rattle.dump.specs.Kept.{none_said}
-use Rattle.dump.specs.Answers.{told_numbers}
-use Rattle.dump.specs.declared.Record.{Record}
 
 -- the shape of zeros is refused with the number 1
 pub zeros-refused : 1 ∷ replicate 16 0 ≡ filled layout_fields (layout_reply (shaped 0 0 0) 256)
@@ -32,23 +27,15 @@ unfolding said_shape listed_shape filled
 none_said_lem own_layouts h = refl
 none_said_lem (listed_layouts ls) h = rw (get_or-eq_default ls unlisted {n = 0xFFFFFFFFFFFFFFFF} (omega arith))
 
-pub same-fields : {a b : Said} → a.layout ≡ b.layout → a.m ≡ b.m → a.t ≡ b.t → a.v ≡ b.v → a ≡ b
-same-fields l m t v = λ i. record { layout = l i; m = m i; t = t i; v = v i }
-
--- where `false` is answered nothing is promised of them
-pub not_same : {a b : Said} → false ≡ true → a ≡ b
-not_same e = clash (ap (λ same. cond same 1 0) e)
-
 -- the reply of a step that gives a record, by its layout as it is said and its reading
-pub record-told : (bytes : List ℕ) (source : Source) (head : Head) {f : Outline} {v : List ℕ} {r : Record} {reading cells : List ℕ} →
-    outlined f v ≡ said_shape source head.said →
-    told_numbers r ≡ head.serial ∷ head.said.layout ∷ f.form ∷ f.m ∷ f.t ∷ get_or v 0 0 ∷ head.start ∷ head.count ∷ [] →
-    reading ≡ read_reply (outlined f v) cells → cells ≡ take head.count (drop head.start bytes) →
-    0 ∷ (told_numbers r ++ reading) ≡ step_values bytes (taken (head_record source head))
+pub record-told : (bytes : List ℕ) (source : Source) (head : Head) {f : Outline} {v : List ℕ} {reading cells : List ℕ} →
+    outlined f v ≡ said_shape source head.said → reading ≡ read_reply (outlined f v) cells → cells ≡ take head.count (drop head.start bytes) →
+    0 ∷ head.serial ∷ head.said.layout ∷ f.form ∷ f.m ∷ f.t ∷ get_or v 0 0 ∷ head.start ∷ head.count ∷ reading
+    ≡ step_values bytes (taken (head_record source head))
 unfolding step_values record_numbers outcome cells_of
-record-told bytes source head {f} {v} {reading = reading} {cells} e told q part =
+record-told bytes source head {f} {v} {reading} {cells} e q part =
     let said = said_shape source head.said in
     let numbers : Shape → List ℕ = λ s.
     head.serial ∷ head.said.layout ∷ s.form ∷ s.m ∷ s.t ∷ get_or s.v 0 0 ∷ head.start ∷ head.count ∷ [] in
-    ap (λ l. 0 ∷ (l ++ reading)) told ∙ ap (λ l. 0 ∷ (numbers (outlined f v) ++ l)) q
+    ap (λ l. 0 ∷ (numbers (outlined f v) ++ l)) q
     ∙ ap (λ (s : Shape). 0 ∷ (numbers s ++ read_reply s cells)) e ∙ ap (λ l. 0 ∷ (numbers said ++ read_reply said l)) part

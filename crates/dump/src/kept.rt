@@ -1,19 +1,21 @@
 // The layout that a walk keeps from record to record.
-ghost use Rattle.std.specs.Prelude.{◌≡◌, true, ◌^◌, ◌<◌, replicate};
+ghost use Rattle.std.specs.Prelude.{◌≡◌, ◌^◌, ◌<◌};
 ghost use Rattle.code.specs.Dump.{Source, listed_many};
 ghost use Rattle.records.specs.Source.{source_of};
 ghost use Rattle.dump.specs.Kept.{none_said, Keeps};
 
-use code::{Kind, refusals};
-use layout::Plan;
+use code::Kind;
+use layout::{Plan, Ungranted};
 use records::Said;
 use shapes::Outline;
 
-// The layout of the last record: what that said of it, and its plan. Its ranges and counts stand in arrays beside it.
+// The layout of the last record: what that said of it, and its plan, with its ranges and its counts.
 #[derive(Clone, Copy)]
 pub struct Kept {
     pub said: Said,
     pub plan: Plan,
+    pub v: [u64; 16],
+    pub h: [u64; 16],
 }
 
 // What is said before the first record: a number that no list has.
@@ -28,77 +30,51 @@ pub fn say_none() -> Said
     }
 }
 
-// What is kept before it, with no ranges and no counts: that number, and the refusal of a shape of zeros.
-pub fn keep_none() -> Kept
-    ensures { (source : Source) → listed_many source < 2 ^ 64 → Keeps source result (replicate 16 0) (replicate 16 0) }
-{
-    let outline = Outline {
-        form: 0,
-        m: 0,
-        t: 0,
-        count: 1,
-    };
-    let plan = Plan {
-        outline,
-        refusal: refusals::BOUNDS,
-    };
-    Kept {
-        said: say_none(),
-        plan,
+impl Kept {
+    // What is kept before it, with no ranges and no counts: that number, and the refusal of a shape of zeros.
+    pub fn none() -> Kept
+        ensures { (source : Source) → listed_many source < 2 ^ 64 → Keeps source result }
+    {
+        let outline = Outline {
+            form: 0,
+            m: 0,
+            t: 0,
+            count: 1,
+        };
+        let plan = Plan {
+            outline,
+            laid: Err(Ungranted::Bounds),
+        };
+        Kept {
+            said: say_none(),
+            plan,
+            v: [0u64; 16],
+            h: [0u64; 16],
+        }
     }
-}
 
-fn same_said(a: Said, b: Said) -> bool
-    ensures { result ≡ true → a ≡ b }
-{
-    if a.v != b.v {
-        return false;
+    // The layout that a record says, worked out in place: a value that is returned would be copied.
+    pub fn work_out(&mut self, dump: &[u8], kind: Kind, places: &[u16], said: Said)
+        ensures { (self.new.said ≡ said) × Keeps (source_of kind dump.now places.now) self.new }
+    {
+        let shape = records::shape_said(dump, kind, places, said);
+        let outline = shapes::outline_of(shape);
+        let v = shape.v;
+        let none = [0u64; 16];
+        self.said = said;
+        self.v = v;
+        self.h = none;
+        let laid = layout::lay_into(&mut self.h, outline, &self.v, 256);
+        self.plan = Plan { outline, laid };
     }
-    if a.t != b.t {
-        return false;
-    }
-    if a.m != b.m {
-        return false;
-    }
-    a.layout == b.layout
-}
 
-// The layout that a record says, worked out.
-pub fn work_out(
-    dump: &[u8],
-    kind: Kind,
-    places: &[u16],
-    v: &mut [u64; 16],
-    h: &mut [u64; 16],
-    said: Said,
-) -> Kept
-    ensures { (result.said ≡ said) × Keeps (source_of kind dump.now places.now) result v.new h.new }
-{
-    let shape = records::shape_said(dump, kind, places, said);
-    let outline = shapes::outline_of(shape);
-    let ranges = shape.v;
-    *v = ranges;
-    *h = [0u64; 16];
-    let refusal = layout::lay_into(h, outline, v, 256);
-    let plan = Plan { outline, refusal };
-    Kept { said, plan }
-}
-
-// The same, but the kept one where the record before said that.
-pub fn renew(
-    dump: &[u8],
-    kind: Kind,
-    places: &[u16],
-    v: &mut [u64; 16],
-    h: &mut [u64; 16],
-    kept: Kept,
-    said: Said,
-) -> Kept
-    requires { Keeps (source_of kind dump.now places.now) kept v.old h.old }
-    ensures { (result.said ≡ said) × Keeps (source_of kind dump.now places.now) result v.new h.new }
-{
-    if same_said(kept.said, said) {
-        return kept;
+    // The same, but what is kept already where the record before said that.
+    pub fn renew(&mut self, dump: &[u8], kind: Kind, places: &[u16], said: Said)
+        requires { Keeps (source_of kind dump.now places.now) self.old }
+        ensures { (self.new.said ≡ said) × Keeps (source_of kind dump.now places.now) self.new }
+    {
+        if self.said != said {
+            self.work_out(dump, kind, places, said);
+        }
     }
-    work_out(dump, kind, places, v, h, said)
 }

@@ -4,23 +4,21 @@
 pub mod kept;
 pub mod listed;
 
-ghost use Rattle.std.specs.Prelude.{◌≡◌, [], ◌∷◌, ◌≤◌, length, get_or};
+ghost use Rattle.std.specs.Prelude.{◌≡◌, ◌≤◌, length, get_or, Ok, Some};
 ghost use Rattle.code.specs.declared.Kind.TheVariants.{New};
 ghost use Rattle.shapes.specs.Outlines.{outlined};
 ghost use Rattle.code.specs.Dump.{Source, open_reply, step, taken, step_values, step_reply};
 ghost use Rattle.layout.specs.Plan.{Planned};
 ghost use Rattle.records.specs.Source.{source_of};
 ghost use Rattle.records.specs.Head.{said_shape, head_record};
+ghost use Rattle.dump.specs.declared.Halt.TheVariants.{Malformed};
 ghost use Rattle.dump.specs.Kept.{Keeps};
-ghost use Rattle.dump.specs.Answers.{halt_number, halt_carries, opened_reply, located_of, told_numbers, step_of, Opens, Walkable};
+ghost use Rattle.dump.specs.Answers.{refusal_of, halt_carries, opened_reply, located_of, step_of, Opens, Walkable};
 
-use code::{Kind, refusals};
+use code::{Kind, Refusal};
 use kept::Kept;
-use layout::Plan;
 use reading::Reading;
-use records::list::LayoutList;
-use records::{Head, HeadThere};
-use shapes::Outline;
+use records::{Head, Malformed};
 
 // The most bytes of a dump.
 pub const DUMP_MOST: usize = 65536;
@@ -29,74 +27,83 @@ pub const DUMP_MOST: usize = 65536;
 const LAYOUTS_MOST: usize = records::list::LAYOUTS_MOST;
 
 // Why a walk stops before the end: a malformed record, whose first byte stands at the offset, or more bytes than a dump may have.
-#[derive(Clone, Copy)]
+#[derive(Clone, Copy, Debug, PartialEq, Eq)]
 pub enum Halt {
     Malformed { offset: usize },
     Oversize,
 }
 
-// A halt in numbers: its refusal, and the offset that it carries, or 0.
-#[derive(Clone, Copy)]
-pub struct HaltFields {
-    pub refusal: u64,
-    pub offset: u64,
-}
-
-pub fn flat_halt(halt: Halt) -> HaltFields
-    ensures { (result.refusal ≡ halt_number halt) × (result.offset ≡ get_or (halt_carries halt) 0 0) }
-{
-    match halt {
-        Halt::Malformed { offset } => HaltFields {
-            refusal: refusals::MALFORMED,
-            offset: offset as u64,
-        },
-        Halt::Oversize => HaltFields {
-            refusal: refusals::TOO_LONG,
-            offset: 0,
-        },
+impl Halt {
+    // The offset that it carries, 0 where it carries none.
+    pub fn offset(self) -> usize
+        ensures { result ≡ get_or (halt_carries self) 0 0 }
+    {
+        match self {
+            Halt::Malformed { offset } => offset,
+            Halt::Oversize => 0,
+        }
     }
 }
 
-// A dump at its front: where its records begin, behind so many layouts, or why it has none.
+impl From<Malformed> for Halt {
+    ghost from_gives = { λ e halt. halt ≡ Malformed e.offset };
+
+    fn from(e: Malformed) -> Halt {
+        Halt::Malformed { offset: e.offset }
+    }
+}
+
+impl From<Halt> for Refusal {
+    ghost from_gives = { λ halt k. k ≡ refusal_of halt };
+
+    fn from(halt: Halt) -> Refusal {
+        match halt {
+            Halt::Malformed { offset } => Refusal::Malformed { offset },
+            Halt::Oversize => Refusal::TooLong,
+        }
+    }
+}
+
+// A dump at its front: where its records begin, behind so many layouts.
 #[derive(Clone, Copy)]
-pub enum Opened {
-    Records { start: usize, layouts: usize },
-    Barred(Halt),
+pub struct Opened {
+    pub start: usize,
+    pub layouts: usize,
 }
 
 // Opens a dump and keeps the places of its layouts.
-pub fn open(dump: &[u8], kind: Kind, places: &mut [u16; LAYOUTS_MOST]) -> Opened
+pub fn open(dump: &[u8], kind: Kind, places: &mut [u16; LAYOUTS_MOST]) -> Result<Opened, Halt>
     requires { length places.old ≡ 64 }
     ensures { Opens kind dump.now places.new result }
 {
     if DUMP_MOST < dump.len() {
-        return Opened::Barred(Halt::Oversize);
+        return Err(Halt::Oversize);
     }
     match kind {
-        Kind::Old => Opened::Records {
+        Kind::Old => Ok(Opened {
             start: 0,
             layouts: 0,
-        },
+        }),
         Kind::New => open_list(dump, places),
     }
 }
 
 // Opens a new dump, behind its layout list.
-fn open_list(dump: &[u8], places: &mut [u16; LAYOUTS_MOST]) -> Opened
+fn open_list(dump: &[u8], places: &mut [u16; LAYOUTS_MOST]) -> Result<Opened, Halt>
     requires { (length dump.now ≤ 65536) × (length places.old ≡ 64) }
     ensures { Opens New dump.now places.new result }
 {
-    match records::list::read_list(dump, places) {
-        LayoutList::Whole { start, count } => Opened::Records {
-            start,
-            layouts: count,
-        },
-        LayoutList::Broken => Opened::Barred(Halt::Malformed { offset: 0 }),
-    }
+    let Some(list) = records::list::read_list(dump, places) else {
+        return Err(Halt::Malformed { offset: 0 });
+    };
+    Ok(Opened {
+        start: list.start,
+        layouts: list.count,
+    })
 }
 
 // Opens a new dump for its reader: the layouts that it lists, and the place of its first record.
-pub fn open_new(dump: &[u8]) -> Opened
+pub fn open_new(dump: &[u8]) -> Result<Opened, Halt>
     ensures { opened_reply result ≡ open_reply New dump.now }
 {
     let mut places = [0u16; LAYOUTS_MOST];
@@ -113,7 +120,8 @@ pub struct Brief {
     pub v: u64,
 }
 
-// A record: its cells are the `count` bytes from `start` on; the layout's number is 0 in an old dump.
+// A record and what it reads as: its cells are the `count` bytes from `start` on, a part of the dump which `records::part` gives; the layout's number is 0 in
+// an old dump.
 #[derive(Clone, Copy)]
 pub struct Record {
     pub serial: u64,
@@ -121,143 +129,87 @@ pub struct Record {
     pub brief: Brief,
     pub start: usize,
     pub count: usize,
+    pub outcome: Result<Reading, Refusal>,
 }
 
-#[derive(Clone, Copy)]
-pub enum Step {
-    // The record's cells are a part of the dump: `records::part` gives them.
-    Record { record: Record, outcome: Reading },
-    End,
-    Stop(Halt),
-}
-
-// What stands at a place: the head of a record, the end, or why the walk stops.
-#[derive(Clone, Copy)]
-pub enum Located {
-    Record(Head),
-    End,
-    Stop(Halt),
-}
-
-pub fn locate(dump: &[u8], kind: Kind, places: &[u16], at: usize) -> Located
+// What stands at a place: the head of a record, nothing at the end, or why the walk stops.
+pub fn locate(dump: &[u8], kind: Kind, places: &[u16], at: usize) -> Result<Option<Head>, Halt>
     requires { Walkable kind dump.now places.now }
     ensures { located_of (source_of kind dump.now places.now) result ≡ step kind dump.now at }
 {
     if dump.len() <= at {
-        return Located::End;
+        return Ok(None);
     }
-    match records::read_head(dump, kind, places, at) {
-        HeadThere::Whole(head) => Located::Record(head),
-        HeadThere::Malformed { offset } => Located::Stop(Halt::Malformed { offset }),
-    }
+    let head = records::read_head(dump, kind, places, at)?;
+    Ok(Some(head))
 }
 
-// The record of a head whose layout is known.
-fn record_of(head: Head, outline: Outline, v: u64) -> Record
-    ensures { told_numbers result ≡ head.serial ∷ head.said.layout ∷ outline.form ∷ outline.m ∷ outline.t ∷ v ∷ head.start ∷ head.count ∷ [] }
+// The record of a head whose layout is worked out.
+fn planned_record(dump: &[u8], kept: &Kept, head: Head) -> Record
+    requires { Planned kept.now.plan kept.now.v kept.now.h }
+    ensures { (source : Source) → outlined kept.now.plan.outline kept.now.v ≡ said_shape source head.said
+        → step_of (Ok (Some result)) ≡ step_values dump.now (taken (head_record source head)) }
 {
+    let outline = kept.plan.outline;
     let brief = Brief {
         form: outline.form,
         m: outline.m,
         t: outline.t,
-        v,
+        v: kept.v[0],
     };
+    let outcome = reading::read_by(
+        kept.plan,
+        &kept.h,
+        &kept.v,
+        records::part(dump, head.start, head.count),
+    );
     Record {
         serial: head.serial,
         layout: head.said.layout,
         brief,
         start: head.start,
         count: head.count,
+        outcome,
     }
 }
 
-// The step that gives a record whose layout is worked out.
-fn step_planned(dump: &[u8], plan: Plan, v: &[u64; 16], h: &[u64; 16], head: Head) -> Step
-    requires { Planned plan v.now h.now }
-    ensures { (source : Source) → outlined plan.outline v.now ≡ said_shape source head.said
-        → step_of result ≡ step_values dump.now (taken (head_record source head)) }
-{
-    let outcome = reading::read_by(plan, h, v, records::part(dump, head.start, head.count));
-    let record = record_of(head, plan.outline, v[0]);
-    Step::Record { record, outcome }
-}
-
-// The step at a place of a dump that is opened.
-fn step_in(dump: &[u8], kind: Kind, places: &[u16], at: usize) -> Step
-    requires { Walkable kind dump.now places.now }
-    ensures { step_of result ≡ step_reply kind dump.now at }
-{
-    match locate(dump, kind, places, at) {
-        Located::Record(head) => {
-            let mut v = [0u64; 16];
-            let mut h = [0u64; 16];
-            let made = kept::work_out(dump, kind, places, &mut v, &mut h, head.said);
-            step_planned(dump, made.plan, &v, &h, head)
-        }
-        Located::End => Step::End,
-        Located::Stop(halt) => Step::Stop(halt),
-    }
-}
-
-// The step at a place, by itself.
-pub fn step_at(dump: &[u8], kind: Kind, at: usize) -> Step
+// The step at a place, by itself: a record, nothing at the end, or why the walk stops.
+pub fn step_at(dump: &[u8], kind: Kind, at: usize) -> Result<Option<Record>, Halt>
     ensures { step_of result ≡ step_reply kind dump.now at }
 {
     let mut places = [0u16; LAYOUTS_MOST];
-    match open(dump, kind, &mut places) {
-        Opened::Records { start, layouts } => step_in(dump, kind, &places[0..layouts], at),
-        Opened::Barred(halt) => Step::Stop(halt),
-    }
+    let opened = open(dump, kind, &mut places)?;
+    step_in(dump, kind, &places[..opened.layouts], at)
 }
 
-#[derive(Clone, Copy)]
-pub struct Stepped {
-    pub step: Step,
-    pub kept: Kept,
-}
-
-// The step that gives a record.
-fn step_record(
-    dump: &[u8],
-    kind: Kind,
-    places: &[u16],
-    v: &mut [u64; 16],
-    h: &mut [u64; 16],
-    kept: Kept,
-    head: Head,
-) -> Stepped
-    requires { Keeps (source_of kind dump.now places.now) kept v.old h.old }
-    ensures { let source = source_of kind dump.now places.now in
-        (step_of result.step ≡ step_values dump.now (taken (head_record source head))) × Keeps source result.kept v.new h.new }
+// The step at a place of a dump that is opened.
+fn step_in(dump: &[u8], kind: Kind, places: &[u16], at: usize) -> Result<Option<Record>, Halt>
+    requires { Walkable kind dump.now places.now }
+    ensures { step_of result ≡ step_reply kind dump.now at }
 {
-    let next = kept::renew(dump, kind, places, v, h, kept, head.said);
-    let step = step_planned(dump, next.plan, v, h, head);
-    Stepped { step, kept: next }
+    let Some(head) = locate(dump, kind, places, at)? else {
+        return Ok(None);
+    };
+    let mut kept = Kept::none();
+    kept.work_out(dump, kind, places, head.said);
+    Ok(Some(planned_record(dump, &kept, head)))
 }
 
-// The step at a place of a dump that is opened, with what is kept of the steps before; its ranges stand in v, its counts in h.
+// The same, with what is kept of the steps before.
 pub fn step_kept(
     dump: &[u8],
     kind: Kind,
     places: &[u16],
     at: usize,
-    v: &mut [u64; 16],
-    h: &mut [u64; 16],
-    kept: Kept,
-) -> Stepped
-    requires { Walkable kind dump.now places.now × Keeps (source_of kind dump.now places.now) kept v.old h.old }
-    ensures step_value { step_of result.step ≡ step_reply kind dump.now at }
-    ensures keeps { Keeps (source_of kind dump.now places.now) result.kept v.new h.new }
+    kept: &mut Kept,
+) -> Result<Option<Record>, Halt>
+    requires { Walkable kind dump.now places.now × Keeps (source_of kind dump.now places.now) kept.old }
+    ensures step_value { step_of result ≡ step_reply kind dump.now at }
+    ensures keeps { Keeps (source_of kind dump.now places.now) kept.new }
 {
-    match locate(dump, kind, places, at) {
-        Located::Record(head) => step_record(dump, kind, places, v, h, kept, head),
-        Located::End => {
-            let step = Step::End;
-            Stepped { step, kept }
-        }
-        Located::Stop(halt) => {
-            let step = Step::Stop(halt);
-            Stepped { step, kept }
-        }
-    }
+    let Some(head) = locate(dump, kind, places, at)? else {
+        return Ok(None);
+    };
+    kept.renew(dump, kind, places, head.said);
+    Ok(Some(planned_record(dump, kept, head)))
 }

@@ -12,7 +12,10 @@ use Rattle.code.specs.Lists.{Below}
 use Rattle.code.specs.Cells.{sound}
 use Rattle.code.specs.Shape.{given, order_of, outside, misfit, granted, counts_of, width_of}
 use Rattle.code.proofs.LayoutCall.{Bounds}
-use Rattle.code.specs.Calls.{refusal, answer, leaves, layout_refusal}
+use Rattle.code.specs.Calls.{refusal, answer, leaves, filled, layout_fields, layout_refusal, layout_reply}
+use Rattle.code.specs.Refusals.{refusal_reply, number_of}
+use Rattle.code.specs.declared.Refusal.{Refusal}
+use Rattle.layout.proofs.Planning.{laid-number, laid-alone}
 use Rattle.code.specs.Numerals.{numerals_of}
 use Rattle.code.specs.LayoutList.{listed_numbers, listed_of, layouts_of}
 use Rattle.code.specs.Export.{record_of}
@@ -26,8 +29,9 @@ use Rattle.storing.proofs.Put.{put-pastes}
 use Rattle.exports.specs.Exported.{Exported}
 
 module _ (s : Shape) (head cells out : List ℕ) where
-  pub export-refused : (k : ℕ) → layout_refusal s 256 ≡ k ∷ [] → Exported s head cells out (k ∷ []) out
-  export-refused k q x e f h o = export-no-layout x cells out h o k (rw e q)
+  pub export-refused : (k : Refusal) {h : List ℕ} → number_of k ∷ h ≡ filled layout_fields (layout_reply s 256) → Exported s head cells out (refusal_reply k) out
+  export-refused k right x e f h o =
+      rw (laid-alone s 256 k right) (export-no-layout x cells out h o (number_of k) (rw e (laid-number s 256 k right)))
 
   module _ (ok : layout_refusal s 256 ≡ []) where
     pub export-spoiled : sound (order_of s) s.m (width_of s) cells ≡ false → Exported s head cells out (3 ∷ []) out
@@ -75,9 +79,12 @@ module _ (s : Shape) (out : List ℕ) where
   unfolding layout_export_reply layout_export_leaves answer leaves
   refuses k q = (rw q, rw q)
 
-  pub listed-refused : (k : ℕ) → layout_refusal s 256 ≡ k ∷ [] → Listing (k ∷ []) out
+  layout-refused : (k : ℕ) → layout_refusal s 256 ≡ k ∷ [] → Listing (k ∷ []) out
   unfolding layout_export_refusal layout_refusal counts_of
-  listed-refused k q = refuses k (refused-early (outside s 256) (misfit 256 (granted s 256)) k [] _ q)
+  layout-refused k q = refuses k (refused-early (outside s 256) (misfit 256 (granted s 256)) k [] _ q)
+
+  pub listed-refused : (k : Refusal) {h : List ℕ} → number_of k ∷ h ≡ filled layout_fields (layout_reply s 256) → Listing (refusal_reply k) out
+  listed-refused k right = rw (laid-alone s 256 k right) (layout-refused (number_of k) (laid-number s 256 k right))
 
   -- the bytes of one layout are those of its numbers
   one-layout : layouts_of (listed_of s ∷ []) ≡ numerals_of (numbers_of s)

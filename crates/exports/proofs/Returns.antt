@@ -15,19 +15,21 @@ use Rattle.code.proofs.Parsed.{record_for, numbers_of, entry-stands}
 use Rattle.code.proofs.Tidied.{read-tidied, numbers-tidied}
 use Rattle.code.proofs.Exported.{export-none, stored-record, export_of, export-head, Said, as_said, head-said, accepted-bounded, accepted-sound}
 use Rattle.storing.specs.Answers.{made_of}
-use Rattle.storing.specs.declared.Made.TheVariants.{Stored, Refused}
+use Rattle.std.proofs.Common.{Ok, Err}
+use Rattle.code.specs.declared.Refusal.{Refusal}
+use Rattle.code.proofs.Refused.{refused-some}
 
 -- A refused export leaves the output as it was.
-pub refused-leaves : (x : Exporting) (cells out after : List ℕ) (k : ℕ) →
-    made_of (Refused k) ≡ export_reply x cells out → after ≡ export_leaves x cells out → after ≡ out
+pub refused-leaves : (x : Exporting) (cells out after : List ℕ) (k : Refusal) →
+    made_of (Err k) ≡ export_reply x cells out → after ≡ export_leaves x cells out → after ≡ out
 unfolding export_reply export_leaves answer
 refused-leaves x cells out after k refused left =
     left ∙ refused-keeps (export_refusal x cells out) (length (record_of x.head cells) ∷ []) _ out
-    (λ e. let z = rw (export-none x cells out e) at refused in absurd (omega (arith, ap length z)))
+    (λ e. let z = rw (export-none x cells out e) at refused in absurd (omega (arith, refused-some k, ap (λ r. get_or r 0 0) z)))
 
 -- An export of a record, which stored n bytes.
 module _ (source : Source) (e : Entry) (out after : List ℕ) (n : ℕ)
-    (stored : made_of (Stored n) ≡ export_reply (export_of source e) e.cells out) (left : after ≡ export_leaves (export_of source e) e.cells out) where
+    (stored : made_of (Ok n) ≡ export_reply (export_of source e) e.cells out) (left : after ≡ export_leaves (export_of source e) e.cells out) where
   accepted : refusal_in (export_reply (export_of source e) e.cells out) ≡ 0
   accepted = ap (λ r. get_or r 0 0) (sym stored)
 

@@ -1,7 +1,7 @@
 -- The text of a dump handed out piece by piece: begun, a piece more, all of it.
 use Prim.Native.Nat.{ℕ, ◌+◌, ◌≤◌}
 use mathlib.Core.Path.{◌≡◌, sym, ap, ◌∙◌}
-use mathlib.Core.Bool.{true, false}
+use Rattle.std.specs.Prelude.{Option, None, Some}
 use mathlib.Core.List.{List, [], ◌++◌, append-nil}
 use native.Mathlib.Omega.{arith}
 use lib.ListN.{length, take, drop, length-append, length-take, length-drop}
@@ -21,20 +21,18 @@ use Rattle.listing.proofs.Runs.{start_left, barred-listing}
 use Rattle.fieldlist.specs.Handing.{Part}
 
 -- what stands before a place of the text is handed out, and what is still to be told stands there
-pub record Handing (kind : Kind) (bytes : List ℕ) (at : ℕ) (s : Listing) : Type 0 where
+pub record Handing (kind : Kind) (bytes : List ℕ) (at : ℕ) (s : Option Listing) : Type 0 where
   pub within : at ≤ length (listing kind bytes)
   pub rest : drop at (listing kind bytes) ≡ text_left kind bytes s
 
-pub handing-begin : (kind : Kind) (bytes : List ℕ) (s : Listing) → (s.next ≡ start_of (opening kind bytes)) × (s.count ≡ 0) × (s.over ≡ false) →
-    Handing kind bytes 0 s
+pub handing-begin : (kind : Kind) (bytes : List ℕ) (s : Listing) → (s.next ≡ start_of (opening kind bytes)) × (s.count ≡ 0) →
+    Handing kind bytes 0 (Some s)
 handing-begin kind bytes s h = record { within = omega arith; rest = sym (start_left kind bytes s h) }
 
-module _ {kind : Kind} {bytes : List ℕ} {at : ℕ} {s : Listing} (h : Handing kind bytes at s) where
-  pub handing-end : s.over ≡ true → at ≡ length (listing kind bytes)
-  handing-end over =
-      let none : text_left kind bytes s ≡ [] = rw over in
-      omega (arith, h.within, length-drop at (listing kind bytes), ap length (h.rest ∙ none))
+pub handing-end : {kind : Kind} {bytes : List ℕ} {at : ℕ} → Handing kind bytes at None → at ≡ length (listing kind bytes)
+handing-end {kind} {bytes} {at} h = omega (arith, h.within, length-drop at (listing kind bytes), ap length h.rest)
 
+module _ {kind : Kind} {bytes : List ℕ} {at : ℕ} {s : Listing} (h : Handing kind bytes at (Some s)) where
   module _ {out : List ℕ} {r : Told} (f : Fills kind bytes s out r) where
     pub next-part : Part (listing kind bytes) at (take r.end out)
     next-part = record { rest = text_left kind bytes r.listing; begins = h.rest ∙ f.text }

@@ -1,75 +1,16 @@
-// Standard input and standard output, to their end. A call that a signal interrupts is made again; any other that fails is told by its error.
+// Standard input, to its end. A call that a signal interrupts is made again; any other that fails is told by its error.
+ghost use Rattle.std.specs.Prelude.{IfOk};
 ghost use Rattle.fieldlist.specs.Reads.{IsPrefixLen};
 
-use std::io::{Error, ErrorKind, Read, Stdin, Stdout, Write};
+use std::io;
+use std::io::{Error, Read, Stdin};
 
-// What was read, and why no more, unless the input ended there or the buffer is full.
-#[derive(Drop)]
-pub struct Input {
-    pub count: usize,
-    pub failure: Option<Error>,
-}
-
-// Whether a call was interrupted by a signal.
-fn is_interrupted(error: &Error) -> bool {
-    error.kind() == ErrorKind::Interrupted
-}
-
-// A proved loop has to end, and nothing says that interruptions do: this comes behind a number of turns that no run uses up.
-fn interrupted() -> Error {
-    Error::from(ErrorKind::Interrupted)
-}
-
-pub fn read_all(mut stdin: Stdin, buffer: &mut [u8]) -> Input
-    ensures { IsPrefixLen result.count buffer.new }
+// Reads into a buffer until the input ends or the buffer is full. A copy promises nothing of its count, so that it is held against the length.
+pub fn read_all(stdin: Stdin, buffer: &mut [u8]) -> Result<usize, Error>
+    ensures { IfOk result (λ count. IsPrefixLen count buffer.new) }
 {
-    let mut count = 0;
-    for _ in 0..u64::MAX {
-        if buffer.len() <= count {
-            return Input {
-                count,
-                failure: None,
-            };
-        }
-        match stdin.read(&mut buffer[count..]) {
-            Ok(0) => {
-                return Input {
-                    count,
-                    failure: None,
-                };
-            }
-            Ok(got) => count += got,
-            Err(error) => {
-                if !is_interrupted(&error) {
-                    return Input {
-                        count,
-                        failure: Some(error),
-                    };
-                }
-            }
-        }
-    }
-    Input {
-        count,
-        failure: Some(interrupted()),
-    }
-}
-
-// Writes all of a text.
-pub fn write_all(mut stdout: Stdout, text: &[u8]) -> Result<(), Error> {
-    let mut count = 0;
-    for _ in 0..u64::MAX {
-        if text.len() <= count {
-            return Ok(());
-        }
-        match stdout.write(&text[count..]) {
-            Ok(put) => count += put,
-            Err(error) => {
-                if !is_interrupted(&error) {
-                    return Err(error);
-                }
-            }
-        }
-    }
-    Err(interrupted())
+    let most = buffer.len();
+    let mut room = &mut buffer[..];
+    let count = io::copy(&mut stdin.take(most as u64), &mut room)?;
+    Ok(most.min(count as usize))
 }

@@ -12,6 +12,7 @@ ghost use Rattle.code.specs.Export.{old_export, new_export, export_reply, export
 ghost use Rattle.code.specs.Dump.{open_reply, step_reply, walk_reply, walk_leaves};
 ghost use Rattle.code.specs.NewDump.{layout_export_reply, layout_export_leaves, listed_reply, listed_fields, to_new_reply, to_new_leaves, to_old_reply, to_old_leaves};
 ghost use Rattle.code.specs.Hex.{hex_export_reply, hex_export_leaves, hex_import_reply, hex_import_leaves};
+ghost use Rattle.layout.specs.Plan.{laid_of};
 ghost use Rattle.reading.specs.Answers.{reading_of};
 ghost use Rattle.writing.specs.Answers.{writing_of};
 ghost use Rattle.many.specs.Answers.{many_of};
@@ -19,41 +20,36 @@ ghost use Rattle.judging.specs.Answers.{judged_of, Says};
 ghost use Rattle.resuming.specs.Answers.{resumed_of};
 ghost use Rattle.pairing.specs.Answers.{pair_reading_of, pair_writing_of};
 ghost use Rattle.dump.specs.Answers.{opened_reply, step_of};
-ghost use Rattle.dump.specs.Listed.{listed_numbers_of};
+ghost use Rattle.dump.specs.Listed.{listed_of};
 ghost use Rattle.walking.specs.Answers.{walked_of};
 ghost use Rattle.moves.specs.Answers.{moved_of};
 ghost use Rattle.storing.specs.Answers.{made_of};
 
-use code::{Kind, Pair, Shape};
-use dump::listed::ListedShape;
-use dump::{Opened, Step};
-use judging::Judged;
-use layout::Layout;
+use code::{Kind, Pair, Refusal, Shape};
+use dump::{Halt, Opened, Record};
 use many::Many;
-use moves::Moved;
-use pairing::{PairReading, PairWriting};
+use pairing::{PairRead, PairWritten};
 use reading::Reading;
 use resuming::Resumed;
-use storing::Made;
 use walking::Walked;
-use writing::Writing;
+use writing::Written;
 
 // The counts of a field in g groups.
-pub fn lay_out(s: Shape, g: u64) -> Layout
-    ensures { (result.refusal ∷ result.h) ≡ filled layout_fields (layout_reply s g) }
+pub fn lay_out(s: Shape, g: u64) -> Result<[u64; 16], Refusal>
+    ensures { laid_of result ≡ filled layout_fields (layout_reply s g) }
 {
     layout::lay_out(s, g)
 }
 
 // The number in a field.
-pub fn read(s: Shape, cells: &[u8]) -> Reading
+pub fn read(s: Shape, cells: &[u8]) -> Result<Reading, Refusal>
     ensures { reading_of result ≡ read_reply s cells.now }
 {
     reading::read(s, cells)
 }
 
 // A new number in a field.
-pub fn write(s: Shape, cells: &mut [u8], number: u64) -> Writing
+pub fn write(s: Shape, cells: &mut [u8], number: u64) -> Result<Written, Refusal>
     ensures result_value { writing_of result ≡ write_reply s number cells.old }
     ensures cells_after { cells.new ≡ write_leaves s number cells.old }
 {
@@ -69,7 +65,7 @@ pub fn write_many(s: Shape, cells: &mut [u8], numbers: &[u64]) -> Many
 }
 
 // Whether some choice of spare groups makes the cells after a write a right one of some number on the cells before it.
-pub fn judge(s: Shape, before: &[u8], after: &[u8]) -> Judged
+pub fn judge(s: Shape, before: &[u8], after: &[u8]) -> Result<Option<u64>, Refusal>
     ensures result_value { judged_of result ≡ judge_reply s before.now after.now }
     ensures says { Says s before.now after.now result }
 {
@@ -77,7 +73,7 @@ pub fn judge(s: Shape, before: &[u8], after: &[u8]) -> Judged
 }
 
 // The number of a write that was cut off, on cells that have no reading since.
-pub fn resume(s: Shape, cells: &mut [u8], number: u64) -> Resumed
+pub fn resume(s: Shape, cells: &mut [u8], number: u64) -> Result<Resumed, Refusal>
     ensures result_value { resumed_of result ≡ resume_fields (resume_reply s number cells.old) }
     ensures cells_after { cells.new ≡ resume_leaves s number cells.old }
 {
@@ -85,14 +81,19 @@ pub fn resume(s: Shape, cells: &mut [u8], number: u64) -> Resumed
 }
 
 // The number in two fields side by side: the sum of theirs, modulo the range.
-pub fn read_pair(p: Pair, first: &[u8], second: &[u8]) -> PairReading
+pub fn read_pair(p: Pair, first: &[u8], second: &[u8]) -> Result<PairRead, Refusal>
     ensures { pair_reading_of result ≡ pair_read_reply p first.now second.now }
 {
     pairing::read_pair(p, first, second)
 }
 
 // A new number in two fields side by side, of which one is written.
-pub fn write_pair(p: Pair, first: &mut [u8], second: &mut [u8], number: u64) -> PairWriting
+pub fn write_pair(
+    p: Pair,
+    first: &mut [u8],
+    second: &mut [u8],
+    number: u64,
+) -> Result<PairWritten, Refusal>
     ensures result_value { pair_writing_of result ≡ pair_write_reply p number first.old second.old }
     ensures first_after { first.new ≡ pair_first_leaves p number first.old second.old }
     ensures second_after { second.new ≡ pair_second_leaves p number first.old second.old }
@@ -101,7 +102,14 @@ pub fn write_pair(p: Pair, first: &mut [u8], second: &mut [u8], number: u64) -> 
 }
 
 // The record of a field for an old dump, at the front of the output.
-pub fn export(serial: u64, m: u64, t: u64, v: u64, cells: &[u8], out: &mut [u8]) -> Made
+pub fn export(
+    serial: u64,
+    m: u64,
+    t: u64,
+    v: u64,
+    cells: &[u8],
+    out: &mut [u8],
+) -> Result<usize, Refusal>
     ensures result_value { made_of result ≡ export_reply (old_export serial m t v) cells.now out.old }
     ensures out_after { out.new ≡ export_leaves (old_export serial m t v) cells.now out.old }
 {
@@ -109,7 +117,7 @@ pub fn export(serial: u64, m: u64, t: u64, v: u64, cells: &[u8], out: &mut [u8])
 }
 
 // A layout for the list of a new dump, at the front of the output.
-pub fn export_layout(shape: Shape, out: &mut [u8]) -> Made
+pub fn export_layout(shape: Shape, out: &mut [u8]) -> Result<usize, Refusal>
     ensures result_value { made_of result ≡ layout_export_reply shape out.old }
     ensures out_after { out.new ≡ layout_export_leaves shape out.old }
 {
@@ -117,7 +125,13 @@ pub fn export_layout(shape: Shape, out: &mut [u8]) -> Made
 }
 
 // The record of a field for a new dump, whose layout has a number in its list, at the front of the output.
-pub fn export_record(serial: u64, number: u64, shape: Shape, cells: &[u8], out: &mut [u8]) -> Made
+pub fn export_record(
+    serial: u64,
+    number: u64,
+    shape: Shape,
+    cells: &[u8],
+    out: &mut [u8],
+) -> Result<usize, Refusal>
     ensures result_value { made_of result ≡ export_reply (new_export serial number shape) cells.now out.old }
     ensures out_after { out.new ≡ export_leaves (new_export serial number shape) cells.now out.old }
 {
@@ -125,28 +139,28 @@ pub fn export_record(serial: u64, number: u64, shape: Shape, cells: &[u8], out: 
 }
 
 // The record at a place of an old dump.
-pub fn step(bytes: &[u8], at: usize) -> Step
+pub fn step(bytes: &[u8], at: usize) -> Result<Option<Record>, Halt>
     ensures { step_of result ≡ step_reply Old bytes.now at }
 {
     dump::step_at(bytes, Kind::Old, at)
 }
 
 // The layouts of a new dump, how many there are, and the place of its first record.
-pub fn open_new(bytes: &[u8]) -> Opened
+pub fn open_new(bytes: &[u8]) -> Result<Opened, Halt>
     ensures { opened_reply result ≡ open_reply New bytes.now }
 {
     dump::open_new(bytes)
 }
 
 // The layout that has a number in the list of a new dump, with all its ranges.
-pub fn listed_shape(bytes: &[u8], number: u64) -> ListedShape
-    ensures { listed_numbers_of result ≡ filled listed_fields (listed_reply bytes.now number) }
+pub fn listed_shape(bytes: &[u8], number: u64) -> Result<Shape, Refusal>
+    ensures { listed_of result ≡ filled listed_fields (listed_reply bytes.now number) }
 {
     dump::listed::listed_shape(bytes, number)
 }
 
 // The record at a place of a new dump.
-pub fn step_new(bytes: &[u8], at: usize) -> Step
+pub fn step_new(bytes: &[u8], at: usize) -> Result<Option<Record>, Halt>
     ensures { step_of result ≡ step_reply New bytes.now at }
 {
     dump::step_at(bytes, Kind::New, at)
@@ -176,7 +190,7 @@ pub fn walk_new(bytes: &[u8], at: usize, rows: &mut [u64]) -> Walked
 }
 
 // The new dump that an old one moves to, at the front of the output.
-pub fn move_to_new(bytes: &[u8], out: &mut [u8]) -> Moved
+pub fn move_to_new(bytes: &[u8], out: &mut [u8]) -> Result<usize, Refusal>
     ensures result_value { moved_of result ≡ to_new_reply bytes.now out.old }
     ensures out_after { out.new ≡ to_new_leaves bytes.now out.old }
 {
@@ -184,7 +198,7 @@ pub fn move_to_new(bytes: &[u8], out: &mut [u8]) -> Moved
 }
 
 // The old dump that a new one moves back to, at the front of the output.
-pub fn move_to_old(bytes: &[u8], out: &mut [u8]) -> Moved
+pub fn move_to_old(bytes: &[u8], out: &mut [u8]) -> Result<usize, Refusal>
     ensures result_value { moved_of result ≡ to_old_reply bytes.now out.old }
     ensures out_after { out.new ≡ to_old_leaves bytes.now out.old }
 {
@@ -192,7 +206,7 @@ pub fn move_to_old(bytes: &[u8], out: &mut [u8]) -> Moved
 }
 
 // The Intel HEX text of bytes, at the front of the output.
-pub fn hex_export(bytes: &[u8], out: &mut [u8]) -> Made
+pub fn hex_export(bytes: &[u8], out: &mut [u8]) -> Result<usize, Refusal>
     ensures result_value { made_of result ≡ hex_export_reply bytes.now out.old }
     ensures out_after { out.new ≡ hex_export_leaves bytes.now out.old }
 {
@@ -200,7 +214,7 @@ pub fn hex_export(bytes: &[u8], out: &mut [u8]) -> Made
 }
 
 // The bytes of an Intel HEX text, at the front of the output.
-pub fn hex_import(text: &[u8], out: &mut [u8]) -> Made
+pub fn hex_import(text: &[u8], out: &mut [u8]) -> Result<usize, Refusal>
     ensures result_value { made_of result ≡ hex_import_reply text.now out.old }
     ensures out_after { out.new ≡ hex_import_leaves text.now out.old }
 {

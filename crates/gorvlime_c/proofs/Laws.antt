@@ -1,11 +1,15 @@
 -- The fields of replies, case by case.
-use mathlib.Core.Path.{◌≡◌, refl}
+use mathlib.Core.Path.{◌≡◌, refl, ap, ◌∙◌}
 use mathlib.Core.List.{List, [], ◌∷◌, ◌++◌}
-use Prim.Native.Nat.{ℕ, zero, suc, ◌+◌, ◌^◌, ◌<◌}
+use Prim.Native.Nat.{ℕ, ◌+◌, ◌^◌, ◌<◌}
 use native.Mathlib.Omega.{arith}
-use lib.ListN.{length, get_or, replicate}
-use borrow.Author.Tests.{lt-ltb, ne_eqb}
+use lib.ListN.{length, get_or, take, replicate}
+use borrow.Author.Tests.{lt-ltb}
 use Rattle.code.specs.declared.Kind.{Kind}
+use Rattle.code.specs.declared.Refusal.{Refusal}
+use Rattle.code.specs.declared.RefusalFields.{RefusalFields}
+use Rattle.code.specs.Refusals.{refusal_reply}
+use Rattle.code.proofs.Refused.{refusal_fields_of, numbered}
 use Rattle.code.specs.Calls.{filled, read_fields}
 use Rattle.code.specs.Dump.{Step, taken, ended, stopped, step, record_numbers, step_values, step_reply}
 use Rattle.code.proofs.Steps.{Refusing, step-refusing}
@@ -59,11 +63,17 @@ pub moved-fields : (n : ℕ) → 0 ∷ 0 ∷ n ∷ [] ≡ offset_fields 3 (0 ∷
 unfolding offset_fields filled
 moved-fields n = refl
 
-pub malformed-fields : (offset : ℕ) → 7 ∷ offset ∷ 0 ∷ [] ≡ offset_fields 3 (7 ∷ offset ∷ [])
-unfolding offset_fields filled
-malformed-fields offset = refl
+-- a reply in two fields is the front of it in three
+fewer : (r : List ℕ) → take 2 (filled 3 r) ≡ filled 2 r
+unfolding filled
+fewer [] = refl
+fewer (x ∷ []) = refl
+fewer (x ∷ y ∷ r) = refl
 
-pub refusal-fields : (k : ℕ) → k ∷ 0 ∷ 0 ∷ [] ≡ offset_fields 3 (k ∷ [])
-unfolding offset_fields filled
-refusal-fields zero = refl
-refusal-fields (suc k) = rw (ne_eqb (suc k) 0 (λ e. absurd (omega arith)))
+module _ (k : Refusal) (c : RefusalFields) (told : refusal_fields_of c ≡ filled 3 (refusal_reply k)) where
+  pub refused-move : c.number ∷ c.first ∷ c.second ∷ [] ≡ offset_fields 3 (refusal_reply k)
+  unfolding offset_fields
+  refused-move = rw (numbered k c told) told
+
+  pub refused-made : c.number ∷ c.first ∷ [] ≡ filled 2 (refusal_reply k)
+  refused-made = ap (λ r. take 2 r) told ∙ fewer (refusal_reply k)

@@ -1,6 +1,6 @@
 -- The promises of the calls for C leave no choice: two answers that one of them allows are equal, and so is what they leave in lent memory. Those of
--- `gorvlime_layout`, of `gorvlime_listed_shape` and of the walks are `unique` of layout/proofs/Unique, `unique-listed-shape`, `unique-walk` and
--- `unique-walk-new` of dump/proofs/Unique; those of the calls by their Rattle names stand there, in reading/proofs/Unique, writing/proofs/Unique, judging/proofs/Unique,
+-- `gorvlime_layout`, `gorvlime_resume` and `gorvlime_write_many` are `unique-fields` of layout/proofs/Unique, `unique-resume-fields` of
+-- resuming/proofs/Unique and `unique-write-many` of many/proofs/Unique; those of the calls by their Rattle names stand there, in walking/proofs/Unique, dump/proofs/Unique, reading/proofs/Unique, writing/proofs/Unique, judging/proofs/Unique,
 -- pairing/proofs/Unique, moves/proofs/Unique and hextext/proofs/Unique, and of `part` in gorvlime/proofs/Unique.
 use Prim.Native.Nat.{ℕ}
 use mathlib.Core.Path.{◌≡◌, sym, ap, ◌∙◌}
@@ -13,8 +13,12 @@ use Rattle.code.specs.declared.Pair.{Pair}
 use Rattle.code.specs.Pair.{pair_read_reply, pair_read_fields, pair_write_reply, pair_first_leaves, pair_second_leaves, pair_write_fields}
 use Rattle.code.specs.declared.Kind.TheVariants.{Old, New}
 use Rattle.code.specs.Export.{old_export, new_export, export_reply, export_leaves}
-use Rattle.code.specs.Dump.{open_reply, step_reply}
-use Rattle.code.specs.NewDump.{layout_export_reply, layout_export_leaves, to_new_reply, to_new_leaves, to_old_reply, to_old_leaves}
+use Rattle.code.specs.Dump.{open_reply, step_reply, walk_reply, walk_leaves}
+use Rattle.dump.specs.declared.listed.ListedShape.{ListedShape}
+use Rattle.dump.specs.Listed.{listed_numbers_of}
+use Rattle.walking.specs.declared.WalkFields.{WalkFields}
+use Rattle.walking.specs.Answers.{walk_fields_of}
+use Rattle.code.specs.NewDump.{listed_reply, listed_fields, layout_export_reply, layout_export_leaves, to_new_reply, to_new_leaves, to_old_reply, to_old_leaves}
 use Rattle.code.specs.Hex.{hex_export_reply, hex_export_leaves, hex_import_reply, hex_import_leaves}
 use Rattle.gorvlime_c.specs.Fields.{made_fields, open_fields, moved_fields, offset_fields, step_fields, new_step_fields, new_found_fields, found_fields}
 use Rattle.reading.specs.declared.ReadFields.{ReadFields}
@@ -47,6 +51,16 @@ pair_writing_with xs = record { refusal = get_or xs 0 0; field = get_or xs 1 0; 
 
 abbrev writing_with : List ℕ → WriteFields
 writing_with xs = record { refusal = get_or xs 0 0; generation = get_or xs 1 0; turned = get_or xs 2 0; unerased = get_or xs 3 0 }
+
+abbrev walk_with : List ℕ → WalkFields
+walk_with xs = record { refusal = get_or xs 0 0; offset = get_or xs 1 0; rows = get_or xs 2 0; next = get_or xs 3 0; ended = get_or xs 4 0 }
+
+abbrev listed_with : List ℕ → ListedShape
+listed_with xs =
+    record {
+      refusal = get_or xs 0 0;
+      shape = record { form = get_or xs 1 0; m = get_or xs 2 0; t = get_or xs 3 0; count = get_or xs 4 0; v = drop 5 xs };
+    }
 
 abbrev made_with : List ℕ → MadeAnswer
 made_with xs = record { refusal = get_or xs 0 0; length = get_or xs 1 0 }
@@ -95,6 +109,20 @@ new_step_with xs =
       left = get_or xs 15 0;
       unerased = get_or xs 16 0;
     }
+
+pub unique-walk-fields : (bytes : List ℕ) (at : ℕ) (rows after after' : List ℕ) (r r' : WalkFields) →
+    walk_fields_of r ≡ walk_reply Old bytes at rows → after ≡ walk_leaves Old bytes at rows →
+    walk_fields_of r' ≡ walk_reply Old bytes at rows → after' ≡ walk_leaves Old bytes at rows → (r ≡ r') × (after ≡ after')
+unique-walk-fields bytes at rows after after' r r' p l p' l' = (ap walk_with (p ∙ sym p'), l ∙ sym l')
+
+pub unique-walk-new-fields : (bytes : List ℕ) (at : ℕ) (rows after after' : List ℕ) (r r' : WalkFields) →
+    walk_fields_of r ≡ walk_reply New bytes at rows → after ≡ walk_leaves New bytes at rows →
+    walk_fields_of r' ≡ walk_reply New bytes at rows → after' ≡ walk_leaves New bytes at rows → (r ≡ r') × (after ≡ after')
+unique-walk-new-fields bytes at rows after after' r r' p l p' l' = (ap walk_with (p ∙ sym p'), l ∙ sym l')
+
+pub unique-listed-fields : (bytes : List ℕ) (number : ℕ) (r r' : ListedShape) → listed_numbers_of r ≡ filled listed_fields (listed_reply bytes number) →
+    listed_numbers_of r' ≡ filled listed_fields (listed_reply bytes number) → r ≡ r'
+unique-listed-fields bytes number r r' p p' = ap listed_with (p ∙ sym p')
 
 pub unique-read : (s : Shape) (cells : List ℕ) (r r' : ReadFields) →
     read_fields_of r ≡ read_fields (read_reply s cells) → read_fields_of r' ≡ read_fields (read_reply s cells) → r ≡ r'

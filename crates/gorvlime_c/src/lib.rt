@@ -1,7 +1,7 @@
 // The public calls for C: the answers of the calls of crate gorvlime in structs of numbers, 0 in the fields that an answer lacks.
 #![tactic(auto)]
 
-ghost use Rattle.std.specs.Prelude.{◌≡◌, ◌∷◌, ◌++◌, ◌^◌, ◌<◌, take, drop, replicate};
+ghost use Rattle.std.specs.Prelude.{◌≡◌, ◌∷◌, ◌++◌, ◌+◌, ◌^◌, ◌<◌, take, drop, replicate, Ok, Some};
 ghost use Rattle.code.specs.Calls.{filled, read_fields, write_fields, layout_fields, layout_reply, read_reply, write_reply, write_leaves};
 ghost use Rattle.code.specs.Many.{many_reply, many_leaves};
 ghost use Rattle.code.specs.JudgeCall.{judge_reply, judge_fields};
@@ -11,7 +11,7 @@ ghost use Rattle.reading.specs.Answers.{read_fields_of};
 ghost use Rattle.writing.specs.Answers.{write_fields_of};
 ghost use Rattle.many.specs.Answers.{many_of};
 ghost use Rattle.judging.specs.Answers.{judge_fields_of};
-ghost use Rattle.resuming.specs.Answers.{resumed_of};
+ghost use Rattle.resuming.specs.Answers.{resume_fields_of};
 ghost use Rattle.pairing.specs.Answers.{pair_read_fields_of, pair_write_fields_of};
 ghost use Rattle.code.specs.declared.Kind.TheVariants.{Old, New};
 ghost use Rattle.code.specs.Export.{old_export, new_export, export_reply, export_leaves};
@@ -20,20 +20,20 @@ ghost use Rattle.code.specs.NewDump.{layout_export_reply, layout_export_leaves, 
 ghost use Rattle.code.specs.Hex.{hex_export_reply, hex_export_leaves, hex_import_reply, hex_import_leaves};
 ghost use Rattle.dump.specs.Answers.{halt_of, opened_reply, step_of};
 ghost use Rattle.dump.specs.Listed.{listed_numbers_of};
-ghost use Rattle.walking.specs.Answers.{walked_of};
+ghost use Rattle.walking.specs.Answers.{walk_fields_of};
 ghost use Rattle.moves.specs.Answers.{moved_of};
 ghost use Rattle.storing.specs.Answers.{made_of};
 ghost use Rattle.gorvlime_c.specs.Fields.{made_fields, open_fields, moved_fields, offset_fields, step_fields, new_step_fields};
 ghost use Rattle.gorvlime_c.specs.Fields.{cells_end, new_found_fields, found_fields};
 
-use code::{Pair, Shape, refusals};
-use dump::{Brief, Halt};
+use code::{Pair, Refusal, Shape};
+use dump::{Brief, Halt, Opened, Record};
 
 #[unsafe(no_mangle)]
 pub extern "C" fn gorvlime_layout(s: Shape, g: u64) -> layout::Layout
     ensures { (result.refusal ∷ result.h) ≡ filled layout_fields (layout_reply s g) }
 {
-    gorvlime::lay_out(s, g)
+    layout::lay_out_fields(s, g)
 }
 
 #[unsafe(no_mangle)]
@@ -56,7 +56,8 @@ pub extern "C" fn gorvlime_write_many(s: Shape, cells: &mut [u8], numbers: &[u64
     ensures result_value { many_of result ≡ many_reply s numbers.now cells.old }
     ensures cells_after { cells.new ≡ many_leaves s numbers.now cells.old }
 {
-    gorvlime::write_many(s, cells, numbers)
+    // Not by crate gorvlime, whose answer would be copied once more: 304 bytes of stack (b).
+    many::write_many(s, cells, numbers)
 }
 
 #[repr(C)]
@@ -66,18 +67,22 @@ pub struct MadeAnswer {
     pub length: u64,
 }
 
-fn flat_made(a: storing::Made) -> MadeAnswer
-    ensures { made_fields result ≡ filled 2 (made_of a) }
+// A refusal fills the struct up from its front; those of the calls that store carry nothing.
+fn flat_made(made: Result<usize, Refusal>) -> MadeAnswer
+    ensures { made_fields result ≡ filled 2 (made_of made) }
 {
-    match a {
-        storing::Made::Stored(n) => MadeAnswer {
+    match made {
+        Ok(length) => MadeAnswer {
             refusal: 0,
-            length: n as u64,
+            length: length as u64,
         },
-        storing::Made::Refused(k) => MadeAnswer {
-            refusal: k,
-            length: 0,
-        },
+        Err(refusal) => {
+            let told = refusal.fields();
+            MadeAnswer {
+                refusal: told.number,
+                length: told.first,
+            }
+        }
     }
 }
 
@@ -89,11 +94,11 @@ pub extern "C" fn gorvlime_judge(s: Shape, before: &[u8], after: &[u8]) -> judgi
 }
 
 #[unsafe(no_mangle)]
-pub extern "C" fn gorvlime_resume(s: Shape, cells: &mut [u8], number: u64) -> resuming::Resumed
-    ensures result_value { resumed_of result ≡ resume_fields (resume_reply s number cells.old) }
+pub extern "C" fn gorvlime_resume(s: Shape, cells: &mut [u8], number: u64) -> resuming::ResumeFields
+    ensures result_value { resume_fields_of result ≡ resume_fields (resume_reply s number cells.old) }
     ensures cells_after { cells.new ≡ resume_leaves s number cells.old }
 {
-    gorvlime::resume(s, cells, number)
+    resuming::flat(gorvlime::resume(s, cells, number))
 }
 
 #[unsafe(no_mangle)]
@@ -206,37 +211,40 @@ fn no_record(refusal: u64, offset: u64) -> NewStepAnswer
 fn no_step(halt: Halt) -> NewStepAnswer
     ensures { new_step_fields result ≡ new_found_fields (halt_of halt) }
 {
-    let told = dump::flat_halt(halt);
-    no_record(told.refusal, told.offset)
+    no_record(Refusal::from(halt).number(), halt.offset() as u64)
 }
 
-fn flat_step(a: dump::Step) -> NewStepAnswer
-    requires { cells_end (step_of a) < 2 ^ 64 }
-    ensures { new_step_fields result ≡ new_found_fields (step_of a) }
+fn flat_record(record: Record) -> NewStepAnswer
+    requires { record.start + record.count < 2 ^ 64 }
+    ensures { new_step_fields result ≡ new_found_fields (step_of (Ok (Some «record»))) }
 {
-    match a {
-        dump::Step::Record { record, outcome } => {
-            let o = reading::flat(outcome);
-            let brief = record.brief;
-            NewStepAnswer {
-                refusal: 0,
-                offset: 0,
-                records: 1,
-                serial: record.serial,
-                layout: record.layout,
-                brief,
-                start: record.start as u64,
-                length: record.count as u64,
-                next: (record.start + record.count) as u64,
-                refused: o.refusal,
-                generation: o.generation,
-                number: o.number,
-                left: o.left,
-                unerased: o.unerased,
-            }
-        }
-        dump::Step::End => no_record(0, 0),
-        dump::Step::Stop(halt) => no_step(halt),
+    let told = reading::flat(record.outcome);
+    NewStepAnswer {
+        refusal: 0,
+        offset: 0,
+        records: 1,
+        serial: record.serial,
+        layout: record.layout,
+        brief: record.brief,
+        start: record.start as u64,
+        length: record.count as u64,
+        next: (record.start + record.count) as u64,
+        refused: told.refusal,
+        generation: told.generation,
+        number: told.number,
+        left: told.left,
+        unerased: told.unerased,
+    }
+}
+
+fn flat_step(step: Result<Option<Record>, Halt>) -> NewStepAnswer
+    requires { cells_end (step_of «step») < 2 ^ 64 }
+    ensures { new_step_fields result ≡ new_found_fields (step_of «step») }
+{
+    match step {
+        Ok(Some(record)) => flat_record(record),
+        Ok(None) => no_record(0, 0),
+        Err(halt) => no_step(halt),
     }
 }
 
@@ -287,25 +295,22 @@ pub struct OpenAnswer {
     pub first: u64,
 }
 
-fn flat_opened(a: dump::Opened) -> OpenAnswer
-    ensures { open_fields result ≡ offset_fields 4 (opened_reply a) }
+fn flat_opened(opened: Result<Opened, Halt>) -> OpenAnswer
+    ensures { open_fields result ≡ offset_fields 4 (opened_reply opened) }
 {
-    match a {
-        dump::Opened::Records { start, layouts } => OpenAnswer {
+    match opened {
+        Ok(front) => OpenAnswer {
             refusal: 0,
             offset: 0,
-            layouts: layouts as u64,
-            first: start as u64,
+            layouts: front.layouts as u64,
+            first: front.start as u64,
         },
-        dump::Opened::Barred(halt) => {
-            let told = dump::flat_halt(halt);
-            OpenAnswer {
-                refusal: told.refusal,
-                offset: told.offset,
-                layouts: 0,
-                first: 0,
-            }
-        }
+        Err(halt) => OpenAnswer {
+            refusal: Refusal::from(halt).number(),
+            offset: halt.offset() as u64,
+            layouts: 0,
+            first: 0,
+        },
     }
 }
 
@@ -320,23 +325,27 @@ pub extern "C" fn gorvlime_open_new(bytes: &[u8]) -> OpenAnswer
 pub extern "C" fn gorvlime_listed_shape(bytes: &[u8], number: u64) -> dump::listed::ListedShape
     ensures { listed_numbers_of result ≡ filled listed_fields (listed_reply bytes.now number) }
 {
-    gorvlime::listed_shape(bytes, number)
+    dump::listed::flat(gorvlime::listed_shape(bytes, number))
 }
 
 #[unsafe(no_mangle)]
-pub extern "C" fn gorvlime_walk(bytes: &[u8], at: usize, rows: &mut [u64]) -> walking::Walked
-    ensures result_value { walked_of result ≡ walk_reply Old bytes.now at rows.old }
+pub extern "C" fn gorvlime_walk(bytes: &[u8], at: usize, rows: &mut [u64]) -> walking::WalkFields
+    ensures result_value { walk_fields_of result ≡ walk_reply Old bytes.now at rows.old }
     ensures rows_after { rows.new ≡ walk_leaves Old bytes.now at rows.old }
 {
-    gorvlime::walk(bytes, at, rows)
+    walking::flat(gorvlime::walk(bytes, at, rows))
 }
 
 #[unsafe(no_mangle)]
-pub extern "C" fn gorvlime_walk_new(bytes: &[u8], at: usize, rows: &mut [u64]) -> walking::Walked
-    ensures result_value { walked_of result ≡ walk_reply New bytes.now at rows.old }
+pub extern "C" fn gorvlime_walk_new(
+    bytes: &[u8],
+    at: usize,
+    rows: &mut [u64],
+) -> walking::WalkFields
+    ensures result_value { walk_fields_of result ≡ walk_reply New bytes.now at rows.old }
     ensures rows_after { rows.new ≡ walk_leaves New bytes.now at rows.old }
 {
-    gorvlime::walk_new(bytes, at, rows)
+    walking::flat(gorvlime::walk_new(bytes, at, rows))
 }
 
 #[repr(C)]
@@ -347,25 +356,24 @@ pub struct MovedAnswer {
     pub length: u64,
 }
 
-fn flat_moved(a: moves::Moved) -> MovedAnswer
-    ensures { moved_fields result ≡ offset_fields 3 (moved_of a) }
+// A refusal fills the struct up from its front; those of a move carry an offset at most.
+fn flat_moved(moved: Result<usize, Refusal>) -> MovedAnswer
+    ensures { moved_fields result ≡ offset_fields 3 (moved_of moved) }
 {
-    match a {
-        moves::Moved::Stored(n) => MovedAnswer {
+    match moved {
+        Ok(length) => MovedAnswer {
             refusal: 0,
             offset: 0,
-            length: n as u64,
+            length: length as u64,
         },
-        moves::Moved::Malformed { offset } => MovedAnswer {
-            refusal: refusals::MALFORMED,
-            offset: offset as u64,
-            length: 0,
-        },
-        moves::Moved::Refused(k) => MovedAnswer {
-            refusal: k,
-            offset: 0,
-            length: 0,
-        },
+        Err(refusal) => {
+            let told = refusal.fields();
+            MovedAnswer {
+                refusal: told.number,
+                offset: told.first,
+                length: told.second,
+            }
+        }
     }
 }
 

@@ -9,10 +9,8 @@ ghost use Rattle.handbook.specs.Rows.{entries_most, row_most, entries_text, row_
 const ROW_MOST: usize = 1303;
 
 fn main(rt: HostRuntime) {
-    let mut n: u64 = 0;
-    while n <= triangle::LAST_ROW {
+    for n in 0..=triangle::LAST_ROW {
         print_row(&rt, n);
-        n += 1;
     }
 }
 
@@ -22,7 +20,7 @@ fn print_row(rt: &impl Print, n: u64)
 {
     let mut out = [0u8; ROW_MOST];
     let end = put_row(&mut out, n);
-    let _ = rt.write_all(&out[0..end]);
+    let _ = rt.write_all(&out[..end]);
 }
 
 // The number of a row, and its numbers.
@@ -42,11 +40,9 @@ fn put_entries(out: &mut [u8], at: usize, n: u64) -> usize
     ensures { PutWithin entries_most out.old out.new at (entries_text n (suc n)) result }
 {
     let mut place = at;
-    let mut k: u64 = 0;
-    while k <= n {
+    for k in 0..=n {
         let digits = storing::put_byte(out, place, b' ');
         place = text::put_decimal(out, digits, triangle::stored(n, k));
-        k += 1;
     }
     place
 }

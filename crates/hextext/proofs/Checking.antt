@@ -2,21 +2,34 @@
 use mathlib.Core.Path.{◌≡◌, refl, sym, ap, ◌∙◌}
 use mathlib.Core.Bool.{false}
 use mathlib.Core.List.{List, [], ◌∷◌, ◌++◌}
+use Rattle.std.specs.Prelude.{Ok, Err}
 use Prim.Native.Nat.{ℕ, ◌+◌, ◌-◌, ◌≤◌, ◌<◌}
 use native.Mathlib.Omega.{arith}
-use lib.ListN.{length, drop, length-append, length-take, length-drop}
+use lib.ListN.{length, get_or, take, drop, length-append, length-take, length-drop}
 use lib.Seq.{take_all, drop-drop}
 use borrow.Author.Tests.{eq-eqb, ne_eqb}
-use Rattle.code.specs.Hex.{data_count, line_data, next_line, line_refusal, is_end, gives, closed, hex_import, bytes_of}
+use Rattle.code.specs.Hex.{data_count, line_data, next_line, line_refusal, is_end, faulty, gives, closed, hex_import, bytes_of}
 use Rattle.code.proofs.HexLines.{line_size, Shaped}
 use Rattle.code.proofs.HexLines.{line-passed, data-length, next-is, size-within}
 use Rattle.code.proofs.HexImport.{import_on, import-refused, import-ended, import-taken, Addressed, held_more, import-front, import-going}
-use Rattle.code.proofs.HexCalls.{HexImports, import-short, import-stored}
+use Rattle.code.proofs.HexCalls.{HexImports, import-faulty, import-short, import-stored}
+use Rattle.code.proofs.Refused.{refused-some}
+use Rattle.code.specs.Refusals.{refusal_reply}
+use Rattle.code.specs.declared.Refusal.{Refusal}
+use Rattle.code.specs.declared.Refusal.TheVariants.{RecordType}
 use Rattle.storing.specs.Put.{Put}
 use Rattle.storing.proofs.Put.{put-none, put_then, put-pastes}
 use Rattle.hextext.specs.Answers.{TestsLine, Counts}
-use Rattle.hextext.specs.declared.import.Checked.TheVariants.{Wrong, Right}
-use Rattle.hextext.specs.declared.import.LineTested.TheVariants.{Data, End, Faulty}
+use Rattle.hextext.specs.declared.import.Tested.TheVariants.{Data, End}
+
+-- the text from a place on, as the code takes it
+pub part-is : (text : List ℕ) (at : ℕ) → take (length text - at) (drop at text) ≡ drop at text
+part-is text at = take_all (length text - at) (drop at text) (omega (arith, length-drop at text))
+
+-- a line that is refused
+line_refused : (done text r : List ℕ) → 0 < get_or r 0 0 → line_refusal (length done) text ≡ r → import_on done text ≡ faulty r
+line_refused done text [] h q = absurd (omega arith)
+line_refused done text (k ∷ carried) h q = import-refused done text k carried q
 
 -- the lines before place `at` are taken, which gave `done` bytes
 pub record Checking (text : List ℕ) (at done : ℕ) : Type 0 where
@@ -31,27 +44,27 @@ unfolding hex_import
 checking-begin text = record { within = omega arith; bytes = []; goes = refl; held = (tt, omega arith); many = refl }
 
 module _ {text : List ℕ} {at done : ℕ} (s : Checking text at done) where
-  pub checking-wrong : (k : ℕ) → TestsLine done (drop at text) (Faulty k) → Counts text (Wrong k)
-  checking-wrong k j = s.goes ∙ import-refused s.bytes (drop at text) k [] (rw s.many j)
+  pub checking-wrong : (k : Refusal) → TestsLine done (drop at text) (Err k) → Counts text (Err k)
+  checking-wrong k j = s.goes ∙ line_refused s.bytes (drop at text) (refusal_reply k) (refused-some k) (rw s.many j)
 
-  closes : (size : ℕ) → TestsLine done (drop at text) (End size) → hex_import text ≡ closed s.bytes (drop size (drop at text))
+  closes : (size : ℕ) → TestsLine done (drop at text) (Ok (End size)) → hex_import text ≡ closed s.bytes (drop size (drop at text))
   closes size j = rw j.2.0 at (s.goes ∙ import-ended s.bytes (drop at text) (rw s.many j.0) j.1)
 
-  pub checking-more : (size : ℕ) → TestsLine done (drop at text) (End size) → size < length text - at → Counts text (Wrong 24)
+  pub checking-more : (size : ℕ) → TestsLine done (drop at text) (Ok (End size)) → size < length text - at → Counts text (Err RecordType)
   unfolding closed
   checking-more size j l =
       let rest = length-drop size (drop at text) in
       let line = length-drop at text in
       closes size j ∙ rw (ne_eqb (length (drop size (drop at text))) 0 (λ z. omega arith))
 
-  pub checking-right : (size : ℕ) → TestsLine done (drop at text) (End size) → length text - at ≤ size → Counts text (Right done)
+  pub checking-right : (size : ℕ) → TestsLine done (drop at text) (Ok (End size)) → length text - at ≤ size → Counts text (Ok done)
   unfolding closed
   checking-right size j l =
       let rest = length-drop size (drop at text) in
       let line = length-drop at text in
       (s.bytes, closes size j ∙ rw (eq-eqb (length (drop size (drop at text))) 0 (omega arith)), s.many)
 
-  pub checking-next : (count size : ℕ) → TestsLine done (drop at text) (Data count size) → Checking text (at + size) (done + count)
+  pub checking-next : (count size : ℕ) → TestsLine done (drop at text) (Ok (Data count size)) → Checking text (at + size) (done + count)
   checking-next count size j =
       let line : List ℕ = drop at text in
       let q : line_refusal (length s.bytes) line ≡ [] = rw s.many j.0 in
@@ -67,9 +80,9 @@ module _ {text : List ℕ} {at done : ℕ} (s : Checking text at done) where
 pub record DataStored (before text after : List ℕ) (at done all : ℕ) : Type 0 where
   pub checking : Checking text at done
   pub put : Put before after 0 checking.bytes done
-  pub whole : Counts text (Right all)
+  pub whole : Counts text (Ok all)
 
-pub loaded-begin : (b text : List ℕ) (all : ℕ) → Counts text (Right all) → DataStored b text b 0 0 all
+pub loaded-begin : (b text : List ℕ) (all : ℕ) → Counts text (Ok all) → DataStored b text b 0 0 all
 unfolding checking-begin
 loaded-begin b text all w = record { checking = checking-begin text; put = put-none b 0; whole = w }
 
@@ -88,7 +101,7 @@ module _ {b text c : List ℕ} {at done all : ℕ} (s : DataStored b text c at d
     pub loaded-shaped : Shaped line
     loaded-shaped = (line-passed done line loaded-line.0).shaped
 
-    pub loaded-tested : TestsLine done line (Data (data_count line) (line_size line))
+    pub loaded-tested : TestsLine done line (Ok (Data (data_count line) (line_size line)))
     loaded-tested = (loaded-line.0, loaded-line.1, refl, (next-is line, omega arith, size-within line loaded-shaped))
 
     pub loaded-room : done + data_count line ≤ all
@@ -117,10 +130,17 @@ module _ {b text c : List ℕ} {at done all : ℕ} (s : DataStored b text c at d
       rw (s.whole.1, f) s.put
 
 -- the import by what its lines come to
-pub imports-short : (text out : List ℕ) (all : ℕ) → Counts text (Right all) → length out < all → HexImports text out (9 ∷ []) out
+imports_faulty : (text out r : List ℕ) → 0 < get_or r 0 0 → hex_import text ≡ faulty r → HexImports text out r out
+imports_faulty text out [] h q = absurd (omega arith)
+imports_faulty text out (k ∷ carried) h q = import-faulty text out k carried q
+
+pub imports-wrong : (text out : List ℕ) (k : Refusal) → Counts text (Err k) → HexImports text out (refusal_reply k) out
+imports-wrong text out k w = imports_faulty text out (refusal_reply k) (refused-some k) w
+
+pub imports-short : (text out : List ℕ) (all : ℕ) → Counts text (Ok all) → length out < all → HexImports text out (9 ∷ []) out
 imports-short text out all w h = import-short text out w.0 w.1 (omega (arith, w.2))
 
-pub imports-right : (text : List ℕ) {b c : List ℕ} (all : ℕ) {n : ℕ} → Counts text (Right all) → all ≤ length b →
+pub imports-right : (text : List ℕ) {b c : List ℕ} (all : ℕ) {n : ℕ} → Counts text (Ok all) → all ≤ length b →
     Put b c 0 (bytes_of (hex_import text)) n → HexImports text b (0 ∷ n ∷ []) c
 unfolding bytes_of
 imports-right text {b} {c} all {n} w h p =

@@ -1,5 +1,5 @@
 -- Laws of an import: a line tested test by test, a text checked line by line, its data stored.
-use mathlib.Core.Path.{◌≡◌}
+use mathlib.Core.Path.{◌≡◌, sym, ◌∙◌}
 use mathlib.Core.Logic.{inl, inr}
 use mathlib.Core.Bool.{true, false, not, ◌&&◌}
 use mathlib.Core.List.{List, [], ◌∷◌, ◌++◌}
@@ -10,15 +10,18 @@ use lib.ListN.{length, get_or, take}
 use lib.Seq.{take-suc}
 use lib.Dec.{leb, ltb, eqb}
 use borrow.Author.Tests.{lt-ltb, le-ltb, le-leb, lt-leb}
-use Rattle.code.specs.Hex.{data_address, line_type, all_spelled, laden_end, wrong_sum, displaced}
+use Rattle.code.specs.Hex.{line_bytes, data_count, line_refusal, all_spelled, laden_end, wrong_sum, displaced}
 use Rattle.code.proofs.Tests.{le-or-lt, both_true}
-use Rattle.code.proofs.HexLines.{is_false, spelled-small, next-is, size-within}
+use Rattle.code.proofs.HexLines.{byte_at, Shaped, bytes-length, byte-at, is_false, spelled-small, next-is, size-within, line-passes}
 use Rattle.hextext.specs.declared.import.Line.{Line}
-use Rattle.hextext.specs.Answers.{Measured, Spans}
+use Rattle.std.specs.Prelude.{Option, None, Some}
+use Rattle.std.specs.Option.{unwrap_or}
+use Rattle.hextext.specs.Answers.{TellsBelow, Measured, Spans}
 
--- what holds below i and at i holds below i + 1
-pub one_more : (P : ℕ → Type 0) (i : ℕ) → ((k : ℕ) → k < i → P k) → P i → (k : ℕ) → k < i + 1 → P k
-one_more P i h p k l = elim (le-or-lt i k) [ inl g ↦ let e : k ≡ i = omega arith in rw e p | inr g ↦ h k g ]
+-- a number that is below the bound is told
+pub told_below : (most n : ℕ) (o : Option ℕ) → TellsBelow most n o → n < most → unwrap_or o 0 ≡ n
+told_below most n None t h = absurd (omega arith)
+told_below most n (Some k) t h = sym t.0
 
 spelled-last : (xs : List ℕ) (b : ℕ) → all_spelled xs ≡ true → b < 256 → all_spelled (xs ++ (b ∷ [])) ≡ true
 unfolding all_spelled
@@ -39,29 +42,32 @@ room-left n count h = elim (le-or-lt (n + count) 65536) [
   | inr l ↦ rw (lt-leb (n + count) 65536 l, lt-ltb (65536 - n) count (omega arith))
 ]
 
--- a line of the right shape, with all its numbers
-pub record LineNumbers (line : List ℕ) (l : Line) (kind address : ℕ) : Type 0 where
-  pub measured : Measured line l
-  pub type-told : line_type line ≡ kind
-  pub address-told : data_address line ≡ address
+-- a line of the right shape goes on behind its data
+pub shaped-room : (line : List ℕ) → Shaped line → 11 + 2 * data_count line < length line
+shaped-room line s = omega (arith, size-within line s, s.finish)
 
--- the tests by these numbers
-module _ {line : List ℕ} {l : Line} {kind address : ℕ} (s : LineNumbers line l kind address) where
-  pub laden-is : laden_end line ≡ (eqb kind 1 && not (eqb l.count 0 && eqb address 0))
+-- and digits spell its first bytes
+pub shaped-byte : (line : List ℕ) → Shaped line → (i : ℕ) → i < 5 → byte_at line i < 256
+shaped-byte line s i l = omega (arith, spelled-small (line_bytes line) s.bytes i (omega (arith, bytes-length line)), byte-at line i (omega arith))
+
+-- a line of the right shape: the tests by its numbers, its characters
+module _ {line : List ℕ} {l : Line} (s : Measured line l) where
+  pub laden-is : laden_end line ≡ (eqb l.kind 1 && not (eqb l.count 0 && eqb l.address 0))
   unfolding laden_end
-  laden-is = rw (s.type-told, s.measured.count-told, s.address-told)
+  laden-is = rw (s.type-told, s.count-told, s.address-told)
 
   pub sum_is : wrong_sum line ≡ not (eqb (l.sum % 256) 0)
   unfolding wrong_sum
-  sum_is = rw s.measured.sum_told
+  sum_is = rw s.sum_told
 
-  pub displaced-is : (n : ℕ) → displaced n line ≡ (eqb kind 0 && ltb 0 l.count && not (eqb address n && leb (n + l.count) 65536))
+  pub displaced-is : (n : ℕ) → displaced n line ≡ (eqb l.kind 0 && ltb 0 l.count && not (eqb l.address n && leb (n + l.count) 65536))
   unfolding displaced
-  displaced-is n = rw (s.type-told, s.measured.count-told, s.address-told)
+  displaced-is n = rw (s.type-told, s.count-told, s.address-told)
 
-module _ {line : List ℕ} {l : Line} (s : Measured line l) where
-  pub measured-room : 12 + 2 * l.count ≤ length line
-  measured-room = omega (arith, size-within line s.shaped, s.shaped.finish, s.count-told)
+  pub measured-passes : (n : ℕ) → false ≡ (eqb l.kind 1 && not (eqb l.count 0 && eqb l.address 0)) → l.sum % 256 ≡ 0 →
+      false ≡ (eqb l.kind 0 && ltb 0 l.count && not (eqb l.address n && leb (n + l.count) 65536)) → l.kind ≤ 1 → line_refusal n line ≡ []
+  measured-passes n bare summed placed known =
+      line-passes n line s.shaped (laden-is ∙ sym bare) (sum_is ∙ rw summed) (displaced-is n ∙ sym placed) (omega (arith, s.type-told))
 
   pub measured-spans : Spans line l.size
   measured-spans = (rw s.size-told at (next-is line), omega (arith, s.size-told), omega (arith, size-within line s.shaped, s.size-told))

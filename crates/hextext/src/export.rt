@@ -1,21 +1,18 @@
 // The text of bytes, line by line.
-ghost use Rattle.std.specs.Prelude.{◌≡◌, [], ◌∷◌, ◌+◌, ◌*◌, ◌<◌, ◌≤◌, min, length};
+ghost use Rattle.std.specs.Prelude.{◌≡◌, [], ◌∷◌, ◌+◌, ◌*◌, ◌<◌, ◌≤◌, length};
 ghost use Rattle.code.specs.Hex.{hex_digit, hex_digits, data_line, data_lines, line_count, end_record};
 ghost use Rattle.code.specs.Lists.{list_sum};
 ghost use Rattle.storing.specs.Put.{Put};
 
-use crate::CAPITALS;
-
+#[tactic(auto, unfolding(code::specs::Hex::hex_digit))]
 fn hex_digit(x: u8) -> u8
     requires { x < 16 }
     ensures { result ≡ hex_digit x }
 {
-    if x < 10 {
-        return b'0' + x;
-    }
-    CAPITALS + x
+    if x < 10 { b'0' + x } else { b'A' - 10 + x }
 }
 
+#[tactic(auto, unfolding(code::specs::Hex::hex_digits))]
 fn put_digits(out: &mut [u8], at: usize, byte: u8) -> usize
     requires { at + 2 ≤ length out.old }
     ensures { Put out.old out.new at (hex_digits (byte ∷ [])) result }
@@ -30,10 +27,8 @@ fn put_all_digits(out: &mut [u8], at: usize, bytes: &[u8]) -> usize
     ensures { Put out.old out.new at (hex_digits bytes.now) result × (result ≡ at + 2 * length bytes.now) }
 {
     let mut next = at;
-    let mut i = 0;
-    while i < bytes.len() {
-        next = put_digits(out, next, bytes[i]);
-        i += 1;
+    for &byte in bytes {
+        next = put_digits(out, next, byte);
     }
     next
 }
@@ -42,13 +37,7 @@ fn byte_sum(bytes: &[u8]) -> u64
     requires { length bytes.now ≤ 255 }
     ensures { (result ≡ list_sum bytes.now) × (result ≤ 255 * length bytes.now) }
 {
-    let mut sum: u64 = 0;
-    let mut i = 0;
-    while i < bytes.len() {
-        sum += bytes[i] as u64;
-        i += 1;
-    }
-    sum
+    bytes.iter().map(|&byte| u64::from(byte)).sum()
 }
 
 // A data record of the bytes that stand from the address on.
@@ -70,34 +59,21 @@ fn put_line(out: &mut [u8], at: usize, address: usize, bytes: &[u8]) -> usize
     storing::put_byte(out, fourth, b'\n')
 }
 
-// Where a line that starts at byte `at` of `count` bytes ends.
-fn line_stop(at: usize, count: usize) -> usize
-    requires { (at < count) × (count ≤ 65536) }
-    ensures { result ≡ min (at + 16) count }
-{
-    if at + 16 <= count {
-        return at + 16;
-    }
-    count
-}
-
 pub fn put_lines(out: &mut [u8], bytes: &[u8]) -> usize
     requires { (length bytes.now ≤ 65536) × (12 * line_count (length bytes.now) + 2 * length bytes.now ≤ length out.old) }
     ensures { Put out.old out.new 0 (data_lines (line_count (length bytes.now)) 0 bytes.now) result }
 {
     let mut at = 0;
-    let mut i = 0;
-    while i < bytes.len() {
-        let stop = line_stop(i, bytes.len());
-        at = put_line(out, at, i, &bytes[i..stop]);
-        i = stop;
+    for (n, line) in bytes.chunks(16).enumerate() {
+        at = put_line(out, at, 16 * n, line);
     }
     at
 }
 
+#[tactic(auto, unfolding(code::specs::Lists::ascii, code::specs::Hex::end_record))]
 pub fn put_end(out: &mut [u8], at: usize) -> usize
     requires { at + 12 ≤ length out.old }
     ensures { Put out.old out.new at end_record result }
 {
-    storing::put_bytes(out, at, &crate::END)
+    storing::put_bytes(out, at, b":00000001FF\n")
 }

@@ -1,25 +1,24 @@
 -- The promise of `judge` leaves no choice: two answers that it allows are equal.
 use Prim.Native.Nat.{ℕ}
 use mathlib.Core.Path.{◌≡◌, refl, sym, ◌∙◌}
-use mathlib.Core.List.{List, ◌∷◌}
+use mathlib.Core.List.{List}
+use Rattle.std.specs.Prelude.{Option, Some, None, Result}
 use Rattle.code.specs.declared.Shape.{Shape}
+use Rattle.code.specs.declared.Refusal.{Refusal}
 use Rattle.code.specs.JudgeCall.{judge_reply}
 use Rattle.code.proofs.Tests.{clash}
-use Rattle.reading.proofs.Unique.{same-refusal, refusal-not}
-use Rattle.judging.specs.declared.Judged.{Judged}
-use Rattle.judging.specs.declared.Judged.TheVariants.{Right, Wrong, Refused}
-use Rattle.judging.specs.Answers.{judged_of}
+use Rattle.code.proofs.Refused.{reply-alike}
+use Rattle.judging.specs.Answers.{verdict_values, judged_of}
 
-pub same-judged : (r r' : Judged) → judged_of r ≡ judged_of r' → r ≡ r'
-same-judged (Right x) (Right x') q = let a : x ≡ x' = cc in rw a
-same-judged (Right x) Wrong q = clash (cc)
-same-judged (Right x) (Refused k) q = absurd (refusal-not k q)
-same-judged Wrong (Right x) q = clash (cc)
-same-judged Wrong Wrong q = refl
-same-judged Wrong (Refused k) q = absurd (refusal-not k q)
-same-judged (Refused k) (Right x) q = absurd (refusal-not k (sym q))
-same-judged (Refused k) Wrong q = absurd (refusal-not k (sym q))
-same-judged (Refused k) (Refused k') q = rw (same-refusal k k' q)
+same-verdict : (a a' : Option ℕ) → verdict_values a ≡ verdict_values a' → a ≡ a'
+same-verdict (Some x) (Some x') q = let e : x ≡ x' = cc in rw e
+same-verdict (Some x) None q = clash (cc)
+same-verdict None (Some x) q = clash (cc)
+same-verdict None None q = refl
 
-pub unique-judged : (s : Shape) (before after : List ℕ) (r r' : Judged) → judged_of r ≡ judge_reply s before after → judged_of r' ≡ judge_reply s before after → r ≡ r'
+pub same-judged : (r r' : Result (Option ℕ) Refusal) → judged_of r ≡ judged_of r' → r ≡ r'
+same-judged = reply-alike verdict_values same-verdict
+
+pub unique-judged : (s : Shape) (before after : List ℕ) (r r' : Result (Option ℕ) Refusal) →
+    judged_of r ≡ judge_reply s before after → judged_of r' ≡ judge_reply s before after → r ≡ r'
 unique-judged s before after r r' p q = same-judged r r' (p ∙ sym q)

@@ -2,20 +2,18 @@
 use Prim.Native.Nat.{ℕ, zero, suc, ◌+◌, ◌*◌, ◌-◌, ◌^◌, ◌≤◌, ◌<◌}
 use mathlib.Core.Path.{◌≡◌, refl, sym, ap, ap₂, ◌∙◌}
 use mathlib.Core.Logic.{◌≢◌, inl, inr}
-use mathlib.Core.Bool.{Bool, true, false, cond, not, ◌&&◌}
+use mathlib.Core.Bool.{Bool, true, false, cond, ◌&&◌}
 use mathlib.Core.List.{List, [], ◌∷◌, ◌++◌}
 use native.Mathlib.Omega.{arith}
-use lib.ListN.{length, get_or, take, replicate}
-use lib.Arith.{lt_of_le-ne}
+use lib.ListN.{length, replicate}
 use lib.Dec.{eqb}
 use borrow.Author.Tests.{eq-eqb, ne_eqb}
 use Rattle.code.specs.declared.Shape.{Shape}
 use Rattle.code.specs.Shape.{first_of, order_of, outside, granted, misfit, counts_of, width_of, code_of}
-use Rattle.code.specs.Code.{Code, erased}
 use Rattle.code.specs.Cells.{wit, opened, sound}
 use Rattle.code.specs.Field as Field
 use Rattle.code.specs.Calls.{groups_in, answer, layout_refusal, read_cells, field_read, numberless, miscounts, exceeds, read_refusal, read_reply, filled, layout_fields, layout_reply}
-use Rattle.code.specs.Judge.{Verdict, right, wrong, wipes, wiped, read_as, judge_at, judge_on, judges}
+use Rattle.code.specs.Judge.{right, wrong, wipes, wiped, read_as, judge_at, judge_on, judges}
 use Rattle.code.specs.JudgeCall.{judge_cells, judge_refusal, verdict_fields, judge_reply, judge_fields}
 use native.Mathlib.Nat.{mul-le-mul_left, le_antisymm}
 use lib.Pow.{pow_mono}
@@ -25,19 +23,18 @@ use Rattle.code.proofs.ReadCall.{read-unsound, read_none, read-miscounted, read-
 use Rattle.code.proofs.JudgeCall.{judge-found, yes-chosen, no-choice, before-refused, after-refused}
 use Rattle.code.proofs.LayoutCall.{refused-early, layout-which}
 use Rattle.code.proofs.WriteCall.{read-most}
-use Rattle.reading.proofs.Refusals.{Told}
-use Rattle.layout.proofs.Planning.{plan-refused}
-use Rattle.reading.specs.declared.RefusalFields.{RefusalFields}
-use Rattle.reading.specs.declared.Refusal.{Refusal}
-use Rattle.reading.specs.declared.Refusal.TheVariants.{Plain, Miscounted, Beyond}
+use Rattle.std.specs.Prelude.{Option, Some, None, Result, Ok, Err}
+use Rattle.code.specs.declared.Refusal.{Refusal}
+use Rattle.code.specs.declared.RefusalFields.{RefusalFields}
+use Rattle.code.specs.Refusals.{refusal_reply, number_of}
+use Rattle.code.proofs.Refused.{refusal_fields_of, fields-told, numbered}
+use Rattle.layout.proofs.Planning.{laid-number, laid-alone}
+use Rattle.reading.specs.declared.Unreadable.{Unreadable}
+use Rattle.reading.specs.declared.Unreadable.TheVariants.{Miscounted, Beyond}
 use Rattle.words.specs.Words.{word_groups, front_groups}
 use Rattle.words.specs.Marks.{Ends}
 use Rattle.layout.specs.Plan.{Granted}
-use Rattle.reading.specs.Answers.{refusal_of, SoundCells, field_groups, Holds, Looked}
-use Rattle.judging.specs.declared.Due.{Due}
-use Rattle.judging.specs.declared.Due.TheVariants.{At, Refused as NotDue}
-use Rattle.judging.specs.declared.Judged.{Judged}
-use Rattle.judging.specs.declared.Judged.TheVariants.{Right, Wrong, Refused}
+use Rattle.reading.specs.Answers.{refusal_for, SoundCells, field_groups, Holds, Looked}
 use Rattle.judging.specs.Answers.{judged_of, Says, due_of, verdict_on, after_told}
 
 pub wiped-later : (e n : ℕ) (xs ys : List ℕ) → n ≢ 0 → wipes e xs ys ≡ wiped e n xs ys
@@ -130,11 +127,11 @@ module _ (s : Shape) (ok : layout_refusal s 256 ≡ []) (before bs : List ℕ) (
   unfolding judge_cells judges judge_on field_read read_cells
   on-number i x e = rw e
 
-  pub due-told : (n : ℕ) → At n ≡ due_of (field_read s before) → judge_reply s before bs ≡ after_told s n (groups_in (code_of s) before) bs
+  pub due-told : (n : ℕ) → Ok n ≡ due_of (field_read s before) → judge_reply s before bs ≡ after_told s n (groups_in (code_of s) before) bs
   unfolding miscounts exceeds
   due-told n q = go (field_read s before) refl q
     where
-      go : (r : Field.Reading) → field_read s before ≡ r → At n ≡ due_of r → judge_reply s before bs ≡ after_told s n (groups_in (code_of s) before) bs
+      go : (r : Field.Reading) → field_read s before ≡ r → Ok n ≡ due_of r → judge_reply s before bs ≡ after_told s n (groups_in (code_of s) before) bs
       go Field.blank e q =
           let z : n ≡ 0 = cc in
           rw z (told (rw e, rw e) 0 (on-blank e))
@@ -145,11 +142,11 @@ module _ (s : Shape) (ok : layout_refusal s 256 ≡ []) (before bs : List ℕ) (
       go (Field.beyond i) e q = clash (cc)
 
   -- the before cells are refused, as in a read
-  pub due-refused : (k : Refusal) → NotDue k ≡ due_of (field_read s before) → judge_reply s before bs ≡ refusal_of k
+  pub due-refused : (k : Unreadable) → Err k ≡ due_of (field_read s before) → judge_reply s before bs ≡ refusal_reply (refusal_for k)
   unfolding numberless miscounts exceeds
   due-refused k q = go (field_read s before) refl q
     where
-      go : (r : Field.Reading) → field_read s before ≡ r → NotDue k ≡ due_of r → judge_reply s before bs ≡ refusal_of k
+      go : (r : Field.Reading) → field_read s before ≡ r → Err k ≡ due_of r → judge_reply s before bs ≡ refusal_reply (refusal_for k)
       go Field.blank e q = clash (cc)
       go (Field.reads i x) e q = clash (cc)
       go (Field.miscounted i u) e q =
@@ -219,14 +216,15 @@ granted-first s before after q = go (layout_refusal s 256) refl
     go (k ∷ carried) z = absurd (omega (arith, ap length (q ∙ judge-no-layout s before after k (z ∙ rw (layout-which s 256 k carried z)))))
 
 -- what the answer says of the cells
-pub says : (s : Shape) (before after : List ℕ) (a : Judged) → judged_of a ≡ judge_reply s before after → Says s before after a
-says s before after (Right x) p = yes-chosen s (granted-first s before after p) before after x (sym p)
-says s before after Wrong p = no-choice s (granted-first s before after p) before after (sym p)
-says s before after (Refused k) p = tt
+pub says : (s : Shape) (before after : List ℕ) (a : Result (Option ℕ) Refusal) → judged_of a ≡ judge_reply s before after → Says s before after a
+says s before after (Ok (Some x)) p = yes-chosen s (granted-first s before after p) before after x (sym p)
+says s before after (Ok None) p = no-choice s (granted-first s before after p) before after (sym p)
+says s before after (Err k) p = tt
 
-pub judges-no-layout : (s : Shape) (before after : List ℕ) {k : ℕ} {h : List ℕ} → k ∷ h ≡ filled layout_fields (layout_reply s 256) → k ≢ 0 →
-    k ∷ [] ≡ judge_reply s before after
-judges-no-layout s before after {k} laid d = sym (judge-no-layout s before after k (plan-refused s laid (lt_of_le-ne (omega arith) (λ z. d (sym z)))))
+pub judges-no-layout : (s : Shape) (before after : List ℕ) (k : Refusal) {h : List ℕ} → number_of k ∷ h ≡ filled layout_fields (layout_reply s 256) →
+    refusal_reply k ≡ judge_reply s before after
+judges-no-layout s before after k laid =
+    laid-alone s 256 k laid ∙ sym (judge-no-layout s before after (number_of k) (laid-number s 256 k laid))
 
 module _ {s : Shape} {h : List ℕ} (G : Granted s h) (before after : List ℕ) where
   pub judges-3 : sound (order_of s) s.m (width_of s) before ≡ false → 3 ∷ [] ≡ judge_reply s before after
@@ -237,36 +235,27 @@ module _ {s : Shape} {h : List ℕ} (G : Granted s h) (before after : List ℕ) 
     unfolding field_read read_cells width_of
     reads_so = rw K.same at (sym K.read)
 
-    pub judges-due : (place : ℕ) → At place ≡ due_of r → {reply : List ℕ} → reply ≡ after_told s place (field_groups s n words) after →
+    pub judges-due : (place : ℕ) → Ok place ≡ due_of r → {reply : List ℕ} → reply ≡ after_told s place (field_groups s n words) after →
         reply ≡ judge_reply s before after
     unfolding width_of
     judges-due place q e =
         e ∙ rw K.same (sym (due-told s G.ok before after sure place (rw reads_so q)))
 
-    pub judges-refused : (k : Refusal) → NotDue k ≡ due_of r → refusal_of k ≡ judge_reply s before after
+    pub judges-refused : (k : Unreadable) → Err k ≡ due_of r → refusal_reply (refusal_for k) ≡ judge_reply s before after
     judges-refused k q = sym (due-refused s G.ok before after sure k (rw reads_so q))
 
-    pub due-most : (place : ℕ) → At place ≡ due_of r → place ≤ 16
+    pub due-most : (place : ℕ) → Ok place ≡ due_of r → place ≤ 16
     unfolding field_read read_cells
     due-most place q = go r reads_so q
       where
-        go : (r : Field.Reading) → field_read s before ≡ r → At place ≡ due_of r → place ≤ 16
+        go : (r : Field.Reading) → field_read s before ≡ r → Ok place ≡ due_of r → place ≤ 16
         go Field.blank e q = let z : place ≡ 0 = cc in omega arith
         go (Field.reads i x) e q = let z : place ≡ i = cc in omega (arith, G.bounds.t-high, read-most s G.ok (groups_in (code_of s) before) i x e)
         go (Field.miscounted i u) e q = clash (cc)
         go (Field.beyond i) e q = clash (cc)
 
 -- a refusal in the five fields of an answer
-pub judge-fields-refused : (k : Refusal) (told : RefusalFields) → Told k told →
-    told.number ∷ 0 ∷ 0 ∷ told.generation ∷ told.unerased ∷ [] ≡ judge_fields (refusal_of k)
-unfolding filled judge_fields
-judge-fields-refused k told t = rw (t.number, t.generation, t.unerased) (go k)
-  where
-    plain : (b : Bool) (xs : List ℕ) → cond b xs xs ≡ xs
-    plain true xs = refl
-    plain false xs = refl
-
-    go : (k : Refusal) → get_or (refusal_of k) 0 0 ∷ 0 ∷ 0 ∷ get_or (refusal_of k) 1 0 ∷ get_or (refusal_of k) 2 0 ∷ [] ≡ judge_fields (refusal_of k)
-    go (Plain n) = sym (plain (eqb n 0) (n ∷ 0 ∷ 0 ∷ 0 ∷ 0 ∷ []))
-    go (Miscounted i u) = refl
-    go (Beyond i) = refl
+pub judge-fields-refused : (k : Refusal) (c : RefusalFields) → refusal_fields_of c ≡ filled 3 (refusal_reply k) →
+    c.number ∷ 0 ∷ 0 ∷ c.first ∷ c.second ∷ [] ≡ judge_fields (refusal_reply k)
+unfolding judge_fields
+judge-fields-refused k c told = let t = fields-told k c told in rw (t.0, t.1, t.2, numbered k c told)

@@ -1,5 +1,5 @@
 -- Document 02, §8 (RULES 13, 15): the answers of judge as replies, and what the functions between them cite.
-use Rattle.std.specs.Prelude.{ℕ, suc, ◌-◌, ◌^◌, Bool, cond, ◌&&◌, List, [], ◌∷◌, eqb}
+use Rattle.std.specs.Prelude.{ℕ, suc, ◌-◌, ◌^◌, Bool, cond, ◌&&◌, List, [], ◌∷◌, eqb, Option, Some, None, Result, Ok, Err}
 use Rattle.code.specs.declared.Shape.{Shape}
 use Rattle.code.specs.Shape.{order_of, width_of, code_of}
 use Rattle.code.specs.Cells.{opened, sound}
@@ -7,35 +7,36 @@ use Rattle.code.specs.Field as Field
 use Rattle.code.specs.Calls.{field_read}
 use Rattle.code.specs.Judge.{wiped}
 use Rattle.code.specs.JudgeCall.{RightGroups}
-use Rattle.reading.specs.Answers.{refusal_of}
-use Rattle.reading.specs.declared.Refusal.TheVariants.{Miscounted, Beyond}
-use Rattle.judging.specs.declared.Judged.{Judged}
-use Rattle.judging.specs.declared.Judged.TheVariants.{Right, Wrong, Refused}
+use Rattle.code.specs.declared.Refusal.{Refusal}
+use Rattle.code.specs.Refusals.{reply_of}
+use Rattle.reading.specs.declared.Unreadable.{Unreadable}
+use Rattle.reading.specs.declared.Unreadable.TheVariants.{Miscounted, Beyond}
 use Rattle.judging.specs.declared.JudgeFields.{JudgeFields}
-use Rattle.judging.specs.declared.Due.{Due}
-use Rattle.judging.specs.declared.Due.TheVariants.{At, Refused as NotDue}
 
--- RULES 13: an enum answer as numbers: 0, 1 and the number for yes, 0, 0 and 0 for no, or the refusal
-abbrev pub judged_of : Judged → List ℕ
-judged_of (Right x) = 0 ∷ 1 ∷ x ∷ []
-judged_of Wrong = 0 ∷ 0 ∷ 0 ∷ []
-judged_of (Refused k) = refusal_of k
+-- RULES 13: a verdict as numbers: 1 and the number for yes, 0 and 0 for no
+abbrev pub verdict_values : Option ℕ → List ℕ
+verdict_values (Some x) = 1 ∷ x ∷ []
+verdict_values None = 0 ∷ 0 ∷ []
+
+-- RULES 13: the answer as a reply: 0 and the verdict, or the refusal
+abbrev pub judged_of : Result (Option ℕ) Refusal → List ℕ
+judged_of r = reply_of verdict_values r
 
 -- 02, §8; RULES 15: what an answer says: yes "exactly when some choice of spare groups makes the after cells a right write of that number on the before cells"
-abbrev pub Says : Shape → List ℕ → List ℕ → Judged → Type 0
-Says s before bytes (Right x) = RightGroups (code_of s) before x bytes
-Says s before bytes Wrong = (x : ℕ) → RightGroups (code_of s) before x bytes → ⊥
-Says s before bytes (Refused k) = Unit {0}
+abbrev pub Says : Shape → List ℕ → List ℕ → Result (Option ℕ) Refusal → Type 0
+Says s before bytes (Ok (Some x)) = RightGroups (code_of s) before x bytes
+Says s before bytes (Ok None) = (x : ℕ) → RightGroups (code_of s) before x bytes → ⊥
+Says s before bytes (Err k) = Unit {0}
 
 abbrev pub judge_fields_of : JudgeFields → List ℕ
 judge_fields_of r = r.refusal ∷ r.yes ∷ r.number ∷ r.generation ∷ r.unerased ∷ []
 
 -- RULES 15: the place that is due after a reading, or the refusal that is left to it
-abbrev pub due_of : Field.Reading → Due
-due_of Field.blank = At 0
-due_of (Field.reads i x) = At i
-due_of (Field.miscounted i u) = NotDue (Miscounted i u)
-due_of (Field.beyond i) = NotDue (Beyond i)
+abbrev pub due_of : Field.Reading → Result ℕ Unreadable
+due_of Field.blank = Ok 0
+due_of (Field.reads i x) = Ok i
+due_of (Field.miscounted i u) = Err (Miscounted i u)
+due_of (Field.beyond i) = Err (Beyond i)
 
 -- RULES 15: what is answered for the reading after a write that was due at a place
 abbrev pub verdict_on : ℕ → ℕ → Bool → Field.Reading → List ℕ

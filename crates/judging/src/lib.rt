@@ -12,19 +12,11 @@ ghost use Rattle.layout.specs.Plan.{Granted};
 ghost use Rattle.reading.specs.Answers.{found_of, field_groups, Holds};
 ghost use Rattle.judging.specs.Answers.{judged_of, Says, judge_fields_of, due_of, verdict_on, after_told};
 
-use code::{Shape, refusals};
-use reading::{Found, Refusal};
+use code::{Refusal, Shape};
+use reading::{Found, Numbered, Unreadable};
 use shapes::Outline;
 
-// Yes with the new number, or no; or the refusal of one of the fields.
-#[derive(Clone, Copy)]
-pub enum Judged {
-    Right(u64),
-    Wrong,
-    Refused(Refusal),
-}
-
-// The same in numbers, 0 for those that it lacks.
+// A judgement or its refusal in numbers, 0 for those that it lacks.
 #[repr(C)]
 #[derive(Clone, Copy)]
 pub struct JudgeFields {
@@ -35,73 +27,48 @@ pub struct JudgeFields {
     pub unerased: u64,
 }
 
-// The place of the generation that is due after a reading, or the refusal that is left to it. Behind the last generation none is.
-#[derive(Clone, Copy)]
-enum Due {
-    At(usize),
-    Refused(Refusal),
-}
-
-fn take_due(found: Found) -> Due
+// The place of the generation that is due after a reading, or why there is none. Behind the last generation none is.
+fn take_due(found: Found) -> Result<usize, Unreadable>
     ensures { result ≡ due_of (found_of found) }
 {
-    match found {
-        Found::Blank => Due::At(0),
-        Found::Number {
-            generation,
-            number: _,
-        } => Due::At(generation as usize),
-        Found::Miscounted {
-            generation,
-            unerased,
-        } => Due::Refused(Refusal::Miscounted {
-            generation,
-            unerased,
-        }),
-        Found::Beyond { generation } => Due::Refused(Refusal::Beyond { generation }),
+    match found? {
+        Some(numbered) => Ok(numbered.generation as usize),
+        None => Ok(0),
     }
 }
 
 // Cells that are blank after the write: a number in form 0 alone, which generation 1 writes.
-fn judge_blank(form: u64, place: usize) -> Judged
+fn judge_blank(form: u64, place: usize) -> Result<Option<u64>, Refusal>
     ensures { judged_of result ≡ verdict_on form place true Field.blank }
 {
     if form != 0 {
-        return Judged::Refused(Refusal::Plain(refusals::BLANK));
+        return Err(Refusal::Blank);
     }
     if place == 0 {
-        return Judged::Right(0);
+        return Ok(Some(0));
     }
-    Judged::Wrong
+    Ok(None)
 }
 
 // Cells that read as a number after the write, which was due at a place; `wiped` tells that what was not zero before is all ones.
-fn judge_number(generation: u64, number: u64, place: usize, wiped: bool) -> Judged
+fn judge_number(numbered: Numbered, place: usize, wiped: bool) -> Option<u64>
     requires { place < 64 }
-    ensures { judged_of result ≡ verdict_on 0 place wiped (Field.reads generation number) }
+    ensures { judged_of (Ok result) ≡ verdict_on 0 place wiped (Field.reads numbered.generation numbered.number) }
 {
-    if wiped & (generation == place as u64 + 1) {
-        return Judged::Right(number);
+    if wiped & (numbered.generation == place as u64 + 1) {
+        return Some(numbered.number);
     }
-    Judged::Wrong
+    None
 }
 
 // What the cells after the write are answered for by what they read as.
-fn tell_verdict(found: Found, form: u64, place: usize, wiped: bool) -> Judged
+fn tell_verdict(found: Found, form: u64, place: usize, wiped: bool) -> Result<Option<u64>, Refusal>
     requires { place < 64 }
     ensures { judged_of result ≡ verdict_on form place wiped (found_of found) }
 {
-    match found {
-        Found::Blank => judge_blank(form, place),
-        Found::Number { generation, number } => judge_number(generation, number, place, wiped),
-        Found::Miscounted {
-            generation,
-            unerased,
-        } => Judged::Refused(Refusal::Miscounted {
-            generation,
-            unerased,
-        }),
-        Found::Beyond { generation } => Judged::Refused(Refusal::Beyond { generation }),
+    match found? {
+        Some(numbered) => Ok(judge_number(numbered, place, wiped)),
+        None => judge_blank(form, place),
     }
 }
 
@@ -130,7 +97,7 @@ fn judge_after(
     words: &[u64; 16],
     before: Before,
     after: &[u8],
-) -> Judged
+) -> Result<Option<u64>, Refusal>
     requires { let s = outlined f v.now in
         (Granted s h.now) × (Holds s.m (width_of s) before.n words.now) × (before.place ≤ 16) }
     ensures { let s = outlined f v.now in
@@ -138,82 +105,78 @@ fn judge_after(
 {
     let m = f.m as usize;
     if !cells::is_sound(after, shapes::order(f), m, h[0] as usize) {
-        return Judged::Refused(Refusal::Plain(refusals::CELLS));
+        return Err(Refusal::Cells);
     }
     let mut now = [0u64; 16];
     let mut marks = [0u64; 16];
     let look = reading::look_at(h, f, v, after, &mut now, &mut marks);
     let wiped = is_wiped(words, &now, look.n, m, before.place);
-    let found = look.found;
-    tell_verdict(found, f.form, before.place, wiped)
+    tell_verdict(look.found, f.form, before.place, wiped)
 }
 
 // Two fields whose layout is granted: the refusals from 3 on, of the before cells first.
-fn judge_granted(h: &[u64; 16], f: Outline, v: &[u64; 16], before: &[u8], after: &[u8]) -> Judged
+fn judge_granted(
+    h: &[u64; 16],
+    f: Outline,
+    v: &[u64; 16],
+    before: &[u8],
+    after: &[u8],
+) -> Result<Option<u64>, Refusal>
     requires { Granted (outlined f v.now) h.now }
     ensures { judged_of result ≡ judge_reply (outlined f v.now) before.now after.now }
 {
     if !cells::is_sound(before, shapes::order(f), f.m as usize, h[0] as usize) {
-        return Judged::Refused(Refusal::Plain(refusals::CELLS));
+        return Err(Refusal::Cells);
     }
     let mut words = [0u64; 16];
     let mut marks = [0u64; 16];
     let look = reading::look_at(h, f, v, before, &mut words, &mut marks);
-    let found = look.found;
-    let due = take_due(found);
-    match due {
-        Due::At(place) => {
-            let n = look.n;
-            judge_after(h, f, v, &words, Before { n, place }, after)
-        }
-        Due::Refused(k) => Judged::Refused(k),
-    }
+    let place = take_due(look.found)?;
+    let n = look.n;
+    judge_after(h, f, v, &words, Before { n, place }, after)
 }
 
 // Whether some choice of spare groups makes the after cells a right write on the before cells, and of which number.
-pub fn judge(s: Shape, before: &[u8], after: &[u8]) -> Judged
+pub fn judge(s: Shape, before: &[u8], after: &[u8]) -> Result<Option<u64>, Refusal>
     ensures result_value { judged_of result ≡ judge_reply s before.now after.now }
     ensures says { Says s before.now after.now result }
 {
     let f = shapes::outline_of(s);
     if shapes::outline_outside(f) {
-        return Judged::Refused(Refusal::Plain(refusals::BOUNDS));
+        return Err(Refusal::Bounds);
     }
     let mut h = [0u64; 16];
     let v = s.v;
-    let refusal = layout::lay_outlined(&mut h, f, &v, 256);
-    if refusal != 0 {
-        return Judged::Refused(Refusal::Plain(refusal));
-    }
+    layout::lay_outlined(&mut h, f, &v, 256)?;
     judge_granted(&h, f, &v, before, after)
 }
 
-pub fn flat(judged: Judged) -> JudgeFields
+pub fn flat(judged: Result<Option<u64>, Refusal>) -> JudgeFields
     ensures { judge_fields_of result ≡ judge_fields (judged_of judged) }
 {
     match judged {
-        Judged::Right(number) => JudgeFields {
+        Ok(Some(number)) => JudgeFields {
             refusal: 0,
             yes: 1,
             number,
             generation: 0,
             unerased: 0,
         },
-        Judged::Wrong => JudgeFields {
+        Ok(None) => JudgeFields {
             refusal: 0,
             yes: 0,
             number: 0,
             generation: 0,
             unerased: 0,
         },
-        Judged::Refused(refusal) => {
-            let told = reading::flat_refusal(refusal);
+        Err(refusal) => {
+            let told = refusal.fields();
             JudgeFields {
                 refusal: told.number,
                 yes: 0,
                 number: 0,
-                generation: told.generation,
-                unerased: told.unerased,
+                generation: told.first,
+                unerased: told.second,
             }
         }
     }

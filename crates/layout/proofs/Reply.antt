@@ -5,7 +5,7 @@ use mathlib.Core.Bool.{false}
 use mathlib.Core.List.{List, ◌∷◌}
 use native.Mathlib.Omega.{arith}
 use lib.ListN.{get_or, set, replicate}
-use Rattle.code.specs.Layout.{room_by, counts, grant}
+use Rattle.code.specs.Layout.{counts, grant}
 use Rattle.code.specs.declared.Shape.{Shape}
 use Rattle.code.specs.Shape.{first_of, ranges_of, outside, granted}
 use Rattle.code.specs.Calls.{filled, layout_fields, layout_reply}

@@ -122,30 +122,3 @@ asked-later wide few room most range more cuts = record {
   most = omega (arith, range.1);
   cuts = cuts;
 }
-
--- what a turn of the loop may reckon with: place i of t has one before it
-pub record Turn (e t i : ℕ) : Type 0 where
-  pub some : 1 ≤ i
-  pub later : 0 < i - 1
-  pub less : i - 1 < i
-  pub within : i - 1 < t
-  pub in_array : i - 1 < 16
-  pub ones : 1 ≤ e
-  pub values : 0 < e - 1
-
-pub turn_at : {e t i : ℕ} → 3 ≤ e → t ≤ 16 → i ≤ t → 1 < i → Turn e t i
-turn_at wide few within before = record {
-  some = omega arith;
-  later = omega arith;
-  less = omega arith;
-  within = omega arith;
-  in_array = omega arith;
-  ones = omega arith;
-  values = omega arith;
-}
-
--- once that of generation 2 is stored
-pub all-stored : {g e t i low : ℕ} {vs h : List ℕ} → Tail g e t vs i low h → 0 < i → i ≤ 1 → 0 < low → low < g → Behind g e t vs low h
-all-stored {i} T first last some l =
-    let one : i ≡ 1 = omega arith in
-    record { some = λ _. some; stored = λ _. rw one at T; crowded = λ f b first. absurd (omega arith) }

@@ -1,2 +1,3 @@
 pub mod Plan
+pub mod Fields
 pub mod Tail

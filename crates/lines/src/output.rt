@@ -1,154 +1,57 @@
-// Text gathered in a lent output, which is written to standard output where a piece might not fit: each call answers the place behind what it stored.
-ghost use Rattle.std.specs.Prelude.{◌≡◌, ◌+◌, ◌≤◌, ◌<◌, length};
-ghost use Rattle.lines.specs.Bounds.{piece_most, reply_most, text_most};
+// Text for standard output, gathered and written whenever no byte more fits.
+ghost use Rattle.std.specs.Prelude.{◌≡◌, ◌≤◌};
+ghost use Rattle.lines.specs.declared.output.TheConstants.{TEXT_MOST};
 
-use crate::replies::Reply;
-use std::io::Stdout;
+use std::fmt;
+use std::io::{Stdout, Write};
 
-pub const TEXT_MOST: usize = 8192;
+const TEXT_MOST: usize = 8192;
 
-// Standard output, and the bytes of the text that is gathered for it.
-#[derive(Clone, Copy)]
+// Standard output, and the bytes that are gathered for it: the first so many.
+#[derive(Drop)]
 pub struct Text {
-    pub stdout: Stdout,
-    pub bytes: [u8; TEXT_MOST],
+    stdout: Stdout,
+    bytes: [u8; TEXT_MOST],
+    count: usize,
+    ghost within: { count ≤ TEXT_MOST },
 }
 
-// Writes the text before a place, and answers where the next begins. A write that fails is the end of the output, and no one is left to be told.
-pub fn write_out(stdout: Stdout, out: &[u8], at: usize) -> usize
-    requires { at ≤ length out.now }
-    ensures { result ≡ 0 }
-{
-    let _ = stdout.write_all(&out[..at]);
-    0
-}
-
-// A place with so many bytes behind it.
-fn make_room(out: &Text, at: usize, need: usize) -> usize
-    requires { (at ≤ text_most) × (need ≤ piece_most) }
-    ensures { result + need ≤ text_most }
-{
-    if need <= TEXT_MOST - at {
-        return at;
+impl Text {
+    pub fn new(stdout: Stdout) -> Text {
+        Text {
+            stdout,
+            bytes: [0; TEXT_MOST],
+            count: 0,
+        }
     }
-    write_out(out.stdout, &out.bytes, at)
-}
 
-pub fn put_word(out: &mut Text, at: usize, word: &[u8]) -> usize
-    requires { (at ≤ text_most) × (length word.now ≤ piece_most) }
-    ensures { result ≤ text_most }
-{
-    let place = make_room(out, at, word.len());
-    storing::put_bytes(&mut out.bytes, place, word)
-}
-
-// The letters of a name, which end at its first space.
-pub fn put_name(out: &mut Text, at: usize, name: [u8; 6]) -> usize
-    requires { at ≤ text_most }
-    ensures { result ≤ text_most }
-{
-    let mut count = 0;
-    while count < 6 && name[count] != b' ' {
-        count += 1;
+    // Writes what is still gathered.
+    pub fn finish(mut self) {
+        self.write_out();
     }
-    put_word(out, at, &name[..count])
-}
 
-// A space or a line feed.
-pub fn put_mark(out: &mut Text, at: usize, mark: u8) -> usize
-    requires { at ≤ text_most }
-    ensures { result ≤ text_most }
-{
-    let place = make_room(out, at, 1);
-    storing::put_byte(&mut out.bytes, place, mark)
-}
-
-// The most bytes of a space and a number.
-const NUMBER_MOST: usize = 21;
-
-// A space and a number.
-pub fn put_number(out: &mut Text, at: usize, x: u64) -> usize
-    requires { at ≤ text_most }
-    ensures { result ≤ text_most }
-{
-    let place = make_room(out, at, NUMBER_MOST);
-    let digits = storing::put_byte(&mut out.bytes, place, b' ');
-    text::put_decimal(&mut out.bytes, digits, x)
-}
-
-// Numbers, each behind a space.
-pub fn put_numbers(out: &mut Text, at: usize, numbers: &[u64]) -> usize
-    requires { at ≤ text_most }
-    ensures { result ≤ text_most }
-{
-    let mut place = at;
-    let mut i = 0;
-    while i < numbers.len() {
-        place = put_number(out, place, numbers[i]);
-        i += 1;
+    // A write that fails is the end of the output, and no one is left to be told.
+    fn write_out(&mut self)
+        ensures { self.new.count ≡ 0 }
+    {
+        let _ = self.stdout.write_all(&self.bytes[..self.count]);
+        self.count = 0;
     }
-    place
-}
 
-pub fn put_reply(out: &mut Text, at: usize, reply: Reply) -> usize
-    requires { (at ≤ text_most) × (reply.count ≤ reply_most) }
-    ensures { result ≤ text_most }
-{
-    let numbers = reply.numbers;
-    let mut place = at;
-    let mut i = 0;
-    while i < reply.count {
-        place = put_number(out, place, numbers[i]);
-        i += 1;
+    fn push(&mut self, byte: u8) {
+        if self.count == TEXT_MOST {
+            self.write_out();
+        }
+        self.bytes[self.count] = byte;
+        self.count += 1;
     }
-    place
 }
 
-fn hex_digit(x: u8) -> u8
-    requires { x < 16 }
-{
-    if x < 10 { 48 + x } else { 87 + x }
-}
-
-fn put_octet(out: &mut Text, at: usize, x: u8) -> usize
-    requires { at ≤ text_most }
-    ensures { result ≤ text_most }
-{
-    let place = make_room(out, at, 2);
-    let second = storing::put_byte(&mut out.bytes, place, hex_digit(x / 16));
-    storing::put_byte(&mut out.bytes, second, hex_digit(x % 16))
-}
-
-fn put_octets(out: &mut Text, at: usize, bytes: &[u8]) -> usize
-    requires { at ≤ text_most }
-    ensures { result ≤ text_most }
-{
-    let mut place = at;
-    let mut i = 0;
-    while i < bytes.len() {
-        place = put_octet(out, place, bytes[i]);
-        i += 1;
+impl fmt::Write for Text {
+    fn write_str(&mut self, piece: &str) -> fmt::Result {
+        for byte in piece.as_bytes() {
+            self.push(*byte);
+        }
+        Ok(())
     }
-    place
-}
-
-// A space and bytes in hex, and no space where there are no bytes.
-pub fn put_bytes(out: &mut Text, at: usize, bytes: &[u8]) -> usize
-    requires { at ≤ text_most }
-    ensures { result ≤ text_most }
-{
-    if bytes.len() == 0 {
-        return at;
-    }
-    let first = put_mark(out, at, b' ');
-    put_octets(out, first, bytes)
-}
-
-// The same, and a line feed.
-pub fn put_hex(out: &mut Text, at: usize, bytes: &[u8]) -> usize
-    requires { at ≤ text_most }
-    ensures { result ≤ text_most }
-{
-    let end = put_bytes(out, at, bytes);
-    put_mark(out, end, b'\n')
 }

@@ -1,162 +1,114 @@
 // The numbers of an answer: 0 and its values, or a refusal and what it carries.
 ghost use Rattle.std.specs.Prelude.{◌≤◌};
-ghost use Rattle.lines.specs.Bounds.{reply_most};
 
-use code::refusals;
-use dump::Halt;
-use judging::Judged;
-use pairing::{PairReading, PairWriting};
-use reading::{Reading, Refusal};
+use crate::Numbers;
+use code::Refusal;
+use pairing::{PairRead, PairWritten, Side};
+use reading::Reading;
 use resuming::Resumed;
-use storing::Made;
-use walking::Walked;
-use writing::Writing;
+use std::fmt;
+use writing::Written;
 
-// So many numbers, with 0 behind them.
+// So many numbers, with 0 behind them, each of which is printed behind a space.
 #[derive(Clone, Copy)]
 pub struct Reply {
-    pub count: usize,
-    pub numbers: [u64; 4],
+    count: usize,
+    numbers: [u64; 4],
+    ghost few: { count ≤ 4 },
 }
 
-pub fn reply_one(refusal: u64) -> Reply
-    ensures { result.count ≤ reply_most }
-{
-    Reply {
-        count: 1,
-        numbers: [refusal, 0, 0, 0],
+impl fmt::Display for Reply {
+    fn fmt<W: fmt::Write>(&self, f: &mut fmt::Formatter<W>) -> fmt::Result {
+        Numbers(&self.numbers[..self.count]).fmt(f)
     }
 }
 
-pub fn reply_two(first: u64, second: u64) -> Reply
-    ensures { result.count ≤ reply_most }
-{
-    Reply {
-        count: 2,
-        numbers: [first, second, 0, 0],
+impl Reply {
+    pub fn of<const N: usize>(numbers: [u64; N]) -> Reply
+        requires { N ≤ 4 }
+    {
+        let mut all = [0u64; 4];
+        all[..N].copy_from_slice(&numbers);
+        Reply {
+            count: N,
+            numbers: all,
+        }
     }
 }
 
-pub fn reply_three(first: u64, second: u64, third: u64) -> Reply
-    ensures { result.count ≤ reply_most }
-{
-    Reply {
-        count: 3,
-        numbers: [first, second, third, 0],
+// A refusal and what it carries.
+impl From<Refusal> for Reply {
+    fn from(refusal: Refusal) -> Reply {
+        let number = refusal.number();
+        match refusal {
+            Refusal::Malformed { offset } => Reply::of([number, offset as u64]),
+            Refusal::Miscounted {
+                generation,
+                unerased,
+            } => Reply::of([number, generation, unerased]),
+            Refusal::Beyond { generation } => Reply::of([number, generation]),
+            _ => Reply::of([number]),
+        }
     }
 }
 
-fn of_refusal(refusal: Refusal) -> Reply
-    ensures { result.count ≤ reply_most }
-{
-    match refusal {
-        Refusal::Plain(number) => reply_one(number),
-        Refusal::Miscounted {
-            generation,
-            unerased,
-        } => reply_three(refusals::MISCOUNTED, generation, unerased),
-        Refusal::Beyond { generation } => reply_two(refusals::BEYOND, generation),
+impl From<Reading> for Reply {
+    fn from(reading: Reading) -> Reply {
+        Reply::of([0, reading.generation, reading.number, reading.left])
     }
 }
 
-pub fn of_reading(answer: Reading) -> Reply
-    ensures { result.count ≤ reply_most }
-{
-    match answer {
-        Reading::Read {
-            generation,
-            number,
-            left,
-        } => Reply {
-            count: 4,
-            numbers: [0, generation, number, left],
-        },
-        Reading::Refused(refusal) => of_refusal(refusal),
-    }
-}
-
-pub fn of_writing(answer: Writing) -> Reply
-    ensures { result.count ≤ reply_most }
-{
-    match answer {
-        Writing::Written { generation, turned } => reply_three(0, generation, turned),
-        Writing::Refused(refusal) => of_refusal(refusal),
+impl From<Written> for Reply {
+    fn from(written: Written) -> Reply {
+        Reply::of([0, written.generation, written.turned])
     }
 }
 
 // Yes and its number, or a 0 alone for no.
-pub fn of_judged(answer: Judged) -> Reply
-    ensures { result.count ≤ reply_most }
-{
+impl From<Option<u64>> for Reply {
+    fn from(judged: Option<u64>) -> Reply {
+        match judged {
+            Some(number) => Reply::of([0, 1, number]),
+            None => Reply::of([0, 0]),
+        }
+    }
+}
+
+// Generation, turned wits and how many groups are listed.
+impl From<Resumed> for Reply {
+    fn from(resumed: Resumed) -> Reply {
+        Reply::of([0, resumed.generation, resumed.turned, resumed.count])
+    }
+}
+
+impl From<PairRead> for Reply {
+    fn from(read: PairRead) -> Reply {
+        Reply::of([0, read.number, read.left])
+    }
+}
+
+// The first field is 0, the second 1.
+impl From<PairWritten> for Reply {
+    fn from(written: PairWritten) -> Reply {
+        let field = match written.side {
+            Side::First => 0,
+            Side::Second => 1,
+        };
+        Reply::of([0, field, written.generation, written.turned])
+    }
+}
+
+// How many bytes are stored.
+impl From<usize> for Reply {
+    fn from(length: usize) -> Reply {
+        Reply::of([0, length as u64])
+    }
+}
+
+// The reply of a call by its answer, or by its refusal.
+pub fn reply_of<A: Into<Reply> + Drop>(answer: Result<A, Refusal>) -> Reply {
     match answer {
-        Judged::Right(number) => reply_three(0, 1, number),
-        Judged::Wrong => reply_two(0, 0),
-        Judged::Refused(refusal) => of_refusal(refusal),
+        Ok(values) => values.into(),
+        Err(refusal) => Reply::from(refusal),
     }
-}
-
-// Generation, turned wits and how many groups are listed, or the refusal.
-pub fn of_resumed(answer: Resumed) -> Reply
-    ensures { result.count ≤ reply_most }
-{
-    if answer.refusal != 0 {
-        return reply_one(answer.refusal);
-    }
-    Reply {
-        count: 4,
-        numbers: [0, answer.generation, answer.turned, answer.count],
-    }
-}
-
-pub fn of_pair_reading(answer: PairReading) -> Reply
-    ensures { result.count ≤ reply_most }
-{
-    match answer {
-        PairReading::Read { number, left } => reply_three(0, number, left),
-        PairReading::Refused(refusal) => of_refusal(refusal),
-    }
-}
-
-pub fn of_pair_writing(answer: PairWriting) -> Reply
-    ensures { result.count ≤ reply_most }
-{
-    match answer {
-        PairWriting::Written {
-            field,
-            generation,
-            turned,
-        } => Reply {
-            count: 4,
-            numbers: [0, field, generation, turned],
-        },
-        PairWriting::Refused(refusal) => of_refusal(refusal),
-    }
-}
-
-pub fn of_made(answer: Made) -> Reply
-    ensures { result.count ≤ reply_most }
-{
-    match answer {
-        Made::Stored(count) => reply_two(0, count as u64),
-        Made::Refused(refusal) => reply_one(refusal),
-    }
-}
-
-pub fn of_halt(halt: Halt) -> Reply
-    ensures { result.count ≤ reply_most }
-{
-    match halt {
-        Halt::Malformed { offset } => reply_two(refusals::MALFORMED, offset as u64),
-        Halt::Oversize => reply_one(refusals::TOO_LONG),
-    }
-}
-
-// Why a walk stopped before the end.
-pub fn of_stopped(w: Walked) -> Reply
-    ensures { result.count ≤ reply_most }
-{
-    if w.refusal == 8 {
-        return reply_one(refusals::TOO_LONG);
-    }
-    reply_two(w.refusal, w.offset)
 }

@@ -1,7 +1,7 @@
 -- The pieces that `fill` tells one after the other are the listing.
 use Prim.Native.Nat.{ℕ, ◌-◌}
-use mathlib.Core.Path.{◌≡◌, sym, ap, ◌∙◌}
-use mathlib.Core.Bool.{true, false}
+use mathlib.Core.Path.{◌≡◌, refl, sym, ap, ◌∙◌}
+use Rattle.std.proofs.Common.{Option, None, Some}
 use mathlib.Core.List.{List, [], ◌∷◌, ◌++◌}
 use lib.ListN.{length, take}
 use Rattle.code.specs.declared.Kind.{Kind}
@@ -16,28 +16,28 @@ use Rattle.listing.specs.declared.Listing.{Listing}
 use Rattle.listing.specs.declared.Told.{Told}
 
 -- pieces as the promise of `fill` allows them, until all is told
-pub data Telling (kind : Kind) (bytes : List ℕ) : Listing → List (List ℕ) → Type 0 where
-  over : {s : Listing} → s.over ≡ true → Telling kind bytes s []
+pub data Telling (kind : Kind) (bytes : List ℕ) : Option Listing → List (List ℕ) → Type 0 where
+  over : Telling kind bytes None []
   then : {s : Listing} {out : List ℕ} {r : Told} {pieces : List (List ℕ)} → Fills kind bytes s out r → Telling kind bytes r.listing pieces →
-      Telling kind bytes s (take r.end out ∷ pieces)
+      Telling kind bytes (Some s) (take r.end out ∷ pieces)
 
 abbrev pub joined : List (List ℕ) → List ℕ
 joined [] = []
 joined (piece ∷ pieces) = piece ++ joined pieces
 
-told-left : {kind : Kind} {bytes : List ℕ} {s : Listing} {pieces : List (List ℕ)} → Telling kind bytes s pieces → text_left kind bytes s ≡ joined pieces
-told-left (over q) = rw q
+told-left : {kind : Kind} {bytes : List ℕ} {s : Option Listing} {pieces : List (List ℕ)} → Telling kind bytes s pieces → text_left kind bytes s ≡ joined pieces
+told-left over = refl
 told-left (then f rest) = f.text ∙ rw (told-left rest)
 
 -- at the start, where the records begin, all of the text is still to be told
-pub start_left : (kind : Kind) (bytes : List ℕ) (s : Listing) → (s.next ≡ start_of (opening kind bytes)) × (s.count ≡ 0) × (s.over ≡ false) →
-    text_left kind bytes s ≡ listing kind bytes
+pub start_left : (kind : Kind) (bytes : List ℕ) (s : Listing) → (s.next ≡ start_of (opening kind bytes)) × (s.count ≡ 0) →
+    text_left kind bytes (Some s) ≡ listing kind bytes
 unfolding listing walk
-start_left kind bytes s h = rw (h.0, h.1, h.2)
+start_left kind bytes s h = rw (h.0, h.1)
 
 -- What is told from the start on is the text of the dump.
 pub listing-told : {kind : Kind} {bytes : List ℕ} {s : Listing} {pieces : List (List ℕ)} →
-    (s.next ≡ start_of (opening kind bytes)) × (s.count ≡ 0) × (s.over ≡ false) → Telling kind bytes s pieces → joined pieces ≡ listing kind bytes
+    (s.next ≡ start_of (opening kind bytes)) × (s.count ≡ 0) → Telling kind bytes (Some s) pieces → joined pieces ≡ listing kind bytes
 listing-told {kind} {bytes} {s} h t = sym (told-left t) ∙ start_left kind bytes s h
 
 -- A dump that is refused as a whole has the closing lines alone.

@@ -11,7 +11,10 @@ use lib.Dec.{ltb}
 use lib.ListN.{length, get_or, take, drop, replicate, length-map, get_or-map, get_or-eq_default}
 use lib.Seq.{get_or-take, get_or-drop}
 use borrow.Author.Tests.{ltb-false}
+use Rattle.std.proofs.Common.{Result, Ok, Err}
 use Rattle.code.specs.declared.Shape.{Shape}
+use Rattle.code.specs.declared.Refusal.{Refusal}
+use Rattle.code.specs.Refusals.{refusal_reply}
 use Rattle.code.specs.Shape.{order_of}
 use Rattle.code.specs.Cells.{wit, ones}
 use Rattle.code.specs.Lists.{list_sum}
@@ -26,12 +29,11 @@ use Rattle.code.proofs.Many as Code
 use Rattle.code.proofs.Many.{field_of, reply-single, cells-single, stopped-keeps, stopped-at, made-accepted, made-single, made-most, made-tried}
 use Rattle.code.proofs.Many.{barred-keeps, unbarred-leaves, turned-sum, many-never-falls, many-reads-back}
 use Rattle.reading.specs.declared.Reading.{Reading}
-use Rattle.reading.specs.declared.Reading.TheVariants.{Read}
-use Rattle.reading.specs.declared.Refusal.{Refusal}
-use Rattle.reading.specs.Answers.{refusal_of, reading_of}
+use Rattle.reading.specs.Answers.{reading_of}
+use Rattle.reading.proofs.Demand.{told}
 use Rattle.reading.proofs.Unique.{same-reading}
-use Rattle.writing.specs.declared.Writing.{Writing}
-use Rattle.writing.specs.declared.Writing.TheVariants.{Written, Refused}
+use Rattle.writing.specs.declared.Written.{Written}
+use Rattle.writing.proofs.Accepted.{wrote}
 use Rattle.writing.specs.Answers.{writing_of}
 use Rattle.writing.proofs.Unique.{same-writing}
 use Rattle.many.specs.declared.Many.{Many}
@@ -183,11 +185,11 @@ module _ (s : Shape) (numbers cells after : List ℕ) (a : Many) (p : many_of a 
       (accepted-parts s (get_or numbers j 0) (field_of s j cells) (tells.accepted j low) ∙ rw (i, n), tells.leaves j low)
 
   -- So any answer that the promise of the single write allows is the one in the rows, and it leaves the same bytes.
-  pub written-singly : (j : ℕ) → j < a.written → (w : Writing) (there : List ℕ) → writing_of w ≡ single_reply j → there ≡ single_leaves j →
-      (w ≡ Written (get_or a.rows j 0) (get_or a.rows (64 + j) 0)) × (field_of s j after ≡ there)
+  pub written-singly : (j : ℕ) → j < a.written → (w : Result Written Refusal) (there : List ℕ) → writing_of w ≡ single_reply j → there ≡ single_leaves j →
+      (w ≡ wrote (get_or a.rows j 0) (get_or a.rows (64 + j) 0)) × (field_of s j after ≡ there)
   written-singly j h w there q e =
       let one = written-reply j h in
-      (same-writing w (Written (get_or a.rows j 0) (get_or a.rows (64 + j) 0)) (q ∙ one.0), one.1 ∙ sym e)
+      (same-writing w (wrote (get_or a.rows j 0) (get_or a.rows (64 + j) 0)) (q ∙ one.0), one.1 ∙ sym e)
 
   -- Behind those written the rows are 0.
   pub rows_behind : (j : ℕ) → a.written ≤ j → j < 64 → (get_or a.rows j 0 ≡ 0) × (get_or a.rows (64 + j) 0 ≡ 0)
@@ -196,12 +198,12 @@ module _ (s : Shape) (numbers cells after : List ℕ) (a : Many) (p : many_of a 
       (generation-at j high ∙ rw none, turned-at j high ∙ rw none)
 
   -- A field that was written reads back: any answer of a read of its bytes is the generation told in its row and its number.
-  pub reads-back : Bytes cells → (j : ℕ) → j < a.written → (b : Reading) → reading_of b ≡ read_reply s (field_of s j after) →
-      b ≡ Read (get_or a.rows j 0) (get_or numbers j 0) (left s.t (field_read s (field_of s j after)))
+  pub reads-back : Bytes cells → (j : ℕ) → j < a.written → (b : Result Reading Refusal) → reading_of b ≡ read_reply s (field_of s j after) →
+      b ≡ Ok (told (get_or a.rows j 0) (get_or numbers j 0) (left s.t (field_read s (field_of s j after))))
   reads-back B j h b q =
       let low : j < length tells.made = omega (arith, tells.many) in
       let row : generation_in (single_reply j) ≡ get_or a.rows j 0 = sym (generation-at j (omega (arith, tells.few)) ∙ rw (tells.replies j low)) in
-      same-reading b (Read (get_or a.rows j 0) (get_or numbers j 0) (left s.t (field_read s (field_of s j after)))) (q ∙ rw row at (tells.reads B j low))
+      same-reading b (Ok (told (get_or a.rows j 0) (get_or numbers j 0) (left s.t (field_read s (field_of s j after))))) (q ∙ rw row at (tells.reads B j low))
 
   -- The turned counts in the row add up to the ones after less the ones before, of all the cells.
   pub turned-add-up : Bytes cells → list_sum (drop 64 a.rows) + ones (order_of s) cells ≡ ones (order_of s) after
@@ -249,16 +251,16 @@ module _ (s : Shape) (numbers cells after : List ℕ) (a : Many) (p : many_of a 
 
   -- a field is refused as a single write of it is, by any answer that its promise allows: the same refusal, with what it carries
   abbrev pub RefusedSingly : ℕ → Type 0
-  RefusedSingly j = (w : Writing) → writing_of w ≡ single_reply j →
-      (k : Refusal) × (w ≡ Refused k) × (a.refusal ∷ a.reached ∷ a.unerased ∷ [] ≡ filled 3 (refusal_of k))
+  RefusedSingly j = (w : Result Written Refusal) → writing_of w ≡ single_reply j →
+      (k : Refusal) × (w ≡ Err k) × (a.refusal ∷ a.reached ∷ a.unerased ∷ [] ≡ filled 3 (refusal_reply k))
 
   refused-singly : (j : ℕ) → 0 < a.refusal → a.refusal ∷ a.reached ∷ a.unerased ∷ [] ≡ filled 3 (single_reply j) → RefusedSingly j
   unfolding filled
-  refused-singly j some three (Written i n) e =
+  refused-singly j some three (Ok made) e =
       let x = three ∙ ap (filled 3) (sym e) in
       let y : a.refusal ≡ 0 = cc in
       absurd (omega arith)
-  refused-singly j some three (Refused r) e = (r, refl, three ∙ ap (filled 3) (sym e))
+  refused-singly j some three (Err r) e = (r, refl, three ∙ ap (filled 3) (sym e))
 
   -- Where stopped is 1, the field told is the one behind those written, and it is refused as the single write of it is.
   pub stopped-singly : a.stopped ≡ 1 → (a.field ≡ a.written) × (a.field < length numbers) × (0 < a.refusal)

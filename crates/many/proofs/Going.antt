@@ -1,7 +1,7 @@
 -- What the loop over the fields knows: begun, a field more, stopped at one, at the end.
 use Prim.Native.Nat.{ℕ, suc, ◌+◌, ◌*◌, ◌-◌, ◌≤◌, ◌<◌}
 use mathlib.Core.Path.{◌≡◌, refl, sym, ap, ◌∙◌}
-use mathlib.Core.Bool.{true, false, cond}
+use mathlib.Core.Bool.{true, false}
 use mathlib.Core.List.{List, [], ◌∷◌, ◌++◌, map, append_assoc, append-nil}
 use native.Mathlib.Omega.{arith}
 use native.Mathlib.Nat.{zero-mul, mul-le-mul}
@@ -14,12 +14,11 @@ use Rattle.code.specs.declared.Shape.{Shape}
 use Rattle.code.specs.Calls.{answer, passes, filled, write_refusal, write_reply, write_leaves, generation_in, turned_in}
 use Rattle.code.specs.Many.{numbers_most, field_bytes, many_replies, many_cells, made_replies, stop_reply, many_numbers, many_told}
 use Rattle.code.proofs.WriteCall.{write-some}
-use Rattle.reading.specs.declared.Refusal.{Refusal}
-use Rattle.reading.specs.declared.Refusal.TheVariants.{Plain, Miscounted, Beyond}
-use Rattle.reading.specs.declared.RefusalFields.{RefusalFields}
-use Rattle.reading.specs.Answers.{refusal_of, refusal_fields_of}
-use Rattle.reading.proofs.Refusals.{refusal-told}
-use Rattle.reading.proofs.Unique.{refusal-not}
+use Rattle.std.proofs.Common.{Some}
+use Rattle.code.specs.declared.Refusal.{Refusal}
+use Rattle.code.specs.Refusals.{refusal_reply}
+use Rattle.code.proofs.Refused.{refused-some}
+use Rattle.many.specs.Answers.{stopped_at}
 use Rattle.code.proofs.Many.{leaves-length}
 
 -- a list that is filled up with zeros, and a number more in it
@@ -89,11 +88,13 @@ going-begin s xs bytes zeros zeros' z z' = record {
   turns = z';
 }
 
-refusal-passes : (k : Refusal) → passes (refusal_of k) ≡ false
+refusal-passes : (k : Refusal) → passes (refusal_reply k) ≡ false
 unfolding passes
-refusal-passes (Plain n) = refl
-refusal-passes (Miscounted i u) = refl
-refusal-passes (Beyond i) = refl
+refusal-passes k = go (refusal_reply k) (refused-some k)
+  where
+    go : (r : List ℕ) → 0 < get_or r 0 0 → passes r ≡ false
+    go [] l = absurd (omega arith)
+    go (n ∷ carried) l = refl
 
 -- what a single write's reply tells: no refusal where it begins with 0, and one where it has a number alone
 written-passes : (s : Shape) (x i k : ℕ) (bs : List ℕ) → 0 ∷ i ∷ k ∷ [] ≡ write_reply s x bs → passes (write_refusal s x bs) ≡ true
@@ -104,13 +105,13 @@ written-passes s x i k bs e = go (write_refusal s x bs) refl _ e
     go [] q values e = refl
     go (n ∷ carried) q values e = let z : 0 ≡ n = cc in absurd (omega (arith, write-some s x bs n carried q))
 
-refused-not : (s : Shape) (x : ℕ) (k : Refusal) (bs : List ℕ) → refusal_of k ≡ write_reply s x bs →
-    (passes (write_refusal s x bs) ≡ false) × (0 < get_or (refusal_of k) 0 0)
+refused-not : (s : Shape) (x : ℕ) (k : Refusal) (bs : List ℕ) → refusal_reply k ≡ write_reply s x bs →
+    (passes (write_refusal s x bs) ≡ false) × (0 < get_or (refusal_reply k) 0 0)
 unfolding write_reply answer passes
 refused-not s x k bs e = go (write_refusal s x bs) refl _ _ e
   where
-    go : (r : List ℕ) → write_refusal s x bs ≡ r → (a b : ℕ) → refusal_of k ≡ answer r (a ∷ b ∷ []) → (passes r ≡ false) × (0 < get_or (refusal_of k) 0 0)
-    go [] q a b e = absurd (refusal-not k (sym e))
+    go : (r : List ℕ) → write_refusal s x bs ≡ r → (a b : ℕ) → refusal_reply k ≡ answer r (a ∷ b ∷ []) → (passes r ≡ false) × (0 < get_or (refusal_reply k) 0 0)
+    go [] q a b e = absurd (omega (arith, refused-some k, ap (λ r. get_or r 0 0) e))
     go (n ∷ carried) q a b e = (refl, rw e (write-some s x bs n carried q))
 
 -- the field at j and what is behind it
@@ -175,12 +176,11 @@ module _ {s : Shape} {xs bytes cells generations turned : List ℕ} {j : ℕ} (g
         }
 
     -- the field is refused: the answer tells it, and the cells are as they are left
-    pub going-stop : (k : Refusal) (c : RefusalFields) → refusal_fields_of c ≡ filled 3 (refusal_of k) → refusal_of k ≡ write_reply s x (take size rest) →
-        ((c.number ∷ 1 ∷ j ∷ j ∷ c.generation ∷ c.unerased ∷ []) ∷ generations ∷ turned ∷ [] ≡ many_told (many_replies s xs bytes)) × (after ≡ many_cells s xs bytes)
+    pub going-stop : (k : Refusal) → refusal_reply k ≡ write_reply s x (take size rest) →
+        (stopped_at (refusal_reply k) (Some j) ∷ generations ∷ turned ∷ [] ≡ many_told (many_replies s xs bytes)) × (after ≡ many_cells s xs bytes)
     unfolding many_replies many_cells made_replies stop_reply many_numbers many_told passes
-    going-stop k c told reply =
-        let one : List ℕ = refusal_of k in
-        let t = refusal-told k c told in
+    going-stop k reply =
+        let one : List ℕ = refusal_reply k in
         let made = g.made in
         let p = refused-not s x k (take size rest) reply in
         let some : eqb (get_or one 0 0) 0 ≡ false = ne_eqb (get_or one 0 0) 0 (λ z. omega (arith, p.1)) in
@@ -189,7 +189,7 @@ module _ {s : Shape} {xs bytes cells generations turned : List ℕ} {j : ℕ} (g
         let stop : stop_reply (many_replies s xs bytes) ≡ one = ap stop_reply step ∙ (g.accepted (one ∷ [])).1 ∙ rw some in
         let all : made_replies (many_replies s xs bytes) ≡ made = ap made_replies step ∙ (g.accepted (one ∷ [])).0 ∙ rw some (append-nil made) in
         let j-times : 1 * length made ≡ j = omega (arith, g.many) in
-        (rw (stop, all, stopped, j-times, g.many, g.generation, g.turns, t.number, t.generation, t.unerased), left ∙ sym (g.leaves ∙ ap (◌++◌ (take (j * size) cells)) (rw (ahead, p.0))))
+        (rw (stop, all, stopped, j-times, g.many, g.generation, g.turns), left ∙ sym (g.leaves ∙ ap (◌++◌ (take (j * size) cells)) (rw (ahead, p.0))))
 
 -- all fields are written
 pub going_end : {s : Shape} {xs bytes cells generations turned : List ℕ} {j : ℕ} → Going s xs bytes cells generations turned j → length xs ≤ j →

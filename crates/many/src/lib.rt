@@ -1,23 +1,25 @@
 // Document 02, §5: up to 64 numbers, written into as many fields of one layout that lie end to end.
 #![tactic(auto)]
 
-ghost use Rattle.std.specs.Prelude.{◌≡◌, [], ◌∷◌, ◌++◌, ◌+◌, ◌*◌, ◌≤◌, length, take, drop, replicate};
-ghost use Rattle.shapes.specs.Outlines.{outlined};
+ghost use Rattle.std.specs.Prelude.{◌≡◌, [], ◌∷◌, ◌++◌, ◌+◌, ◌*◌, ◌≤◌, length, take, drop, replicate, None};
 ghost use Rattle.code.specs.Calls.{write_reply, write_leaves};
 ghost use Rattle.code.specs.Many.{field_bytes, many_replies, many_cells, many_told, many_reply, many_leaves};
 ghost use Rattle.writing.specs.Answers.{writing_of};
-ghost use Rattle.layout.specs.Plan.{Granted};
+ghost use Rattle.layout.specs.Fields.{shape_of};
+ghost use Rattle.layout.specs.Plan.{ungranted_as};
 ghost use Rattle.many.specs.Answers.{end_of, many_of};
 
-use code::{Shape, refusals};
-use shapes::Outline;
-use writing::Writing;
+use code::{Refusal, Shape};
+use layout::Ungranted;
+use layout::field::Field;
+use writing::Written;
 
 const NUMBERS_MOST: usize = 64;
 
 // The refusal, 0 where all numbers are written; where it is a field's, stopped is 1 and the field is told, counted from 0. Then how many
 // fields are written, and what the refusal carries, as far as it does: the generation that the field's zero groups point to, and how many
 // are not erased. Behind that two rows of 64: of each field written its generation, then of each its turned count, 0 behind them.
+// As C has it (b): the call takes 1,800 bytes of stack so, all that its limit allows, and a form beside it would copy the rows.
 #[repr(C)]
 #[derive(Clone, Copy)]
 pub struct Many {
@@ -30,126 +32,112 @@ pub struct Many {
     pub rows: [u16; 128],
 }
 
-// How the writes ended: the numbers of the answer before its two rows.
+// Why not all numbers are written: the refusal of a field, which is counted from 0 and behind those written, or one before any write.
 #[derive(Clone, Copy)]
-struct End {
-    refusal: u64,
-    stopped: u64,
-    field: u64,
-    written: u64,
-    reached: u64,
-    unerased: u64,
+struct Stop {
+    field: Option<usize>,
+    refusal: Refusal,
 }
 
-// Refused before any write, which names no field.
-fn refuse(refusal: u64) -> End
-    ensures { end_of result ≡ refusal ∷ 0 ∷ 0 ∷ 0 ∷ 0 ∷ 0 ∷ [] }
-{
-    End {
-        refusal,
-        stopped: 0,
-        field: 0,
-        written: 0,
-        reached: 0,
-        unerased: 0,
+impl From<Refusal> for Stop {
+    ghost from_gives = { λ k stop. stop ≡ record { field = None; refusal = k } };
+
+    fn from(refusal: Refusal) -> Stop {
+        Stop {
+            field: None,
+            refusal,
+        }
+    }
+}
+
+impl From<Ungranted> for Stop {
+    ghost from_gives = { λ e stop. stop ≡ record { field = None; refusal = ungranted_as e } };
+
+    fn from(e: Ungranted) -> Stop {
+        Stop {
+            field: None,
+            refusal: e.into(),
+        }
     }
 }
 
 // How many bytes a field takes.
-fn field_bytes(h: &[u64; 16], f: Outline, v: &[u64; 16]) -> usize
-    requires { Granted (outlined f v.now) h.now }
-    ensures { (result ≡ field_bytes (outlined f v.now)) × (result ≤ 128) }
+fn field_bytes(f: &Field) -> usize
+    ensures { (result ≡ field_bytes (shape_of f.now)) × (result ≤ 128) }
 {
-    (f.m * h[0] + 7) as usize / 8
+    (f.outline.m * f.h[0] + 7) as usize / 8
 }
 
 // Writes the field of so many bytes that begins at a place of the cells.
 fn write_one(
-    h: &[u64; 16],
-    f: Outline,
-    v: &[u64; 16],
+    f: &Field,
     cells: &mut [u8],
     at: usize,
     size: usize,
     x: u64,
-) -> Writing
-    requires { (Granted (outlined f v.now) h.now) × (at + size ≤ length cells.old) }
-    ensures result_value { writing_of result ≡ write_reply (outlined f v.now) x (take size (drop at cells.old)) }
+) -> Result<Written, Refusal>
+    requires { at + size ≤ length cells.old }
+    ensures result_value { writing_of result ≡ write_reply (shape_of f.now) x (take size (drop at cells.old)) }
     ensures cells_after { let before = cells.old in
-        cells.new ≡ take at before ++ (write_leaves (outlined f v.now) x (take size (drop at before)) ++ drop size (drop at before)) }
+        cells.new ≡ take at before ++ (write_leaves (shape_of f.now) x (take size (drop at before)) ++ drop size (drop at before)) }
 {
-    writing::write_granted(h, f, v, &mut cells[at..at + size], x)
+    writing::write_granted(f.h, f.outline, f.v, &mut cells[at..at + size], x)
 }
 
 // Writes the numbers in order up to the first refusal.
 fn write_fields(
-    h: &[u64; 16],
-    f: Outline,
-    v: &[u64; 16],
+    f: &Field,
     cells: &mut [u8],
     size: usize,
     numbers: &[u64],
     rows: &mut [u16; 128],
-) -> End
-    requires fact { let s = outlined f v.now in
-        (Granted s h.now) × (size ≡ field_bytes s) × (length numbers.now ≤ 64) × (length cells.old ≡ length numbers.now * size) }
+) -> Result<(), Stop>
+    requires fact { (size ≡ field_bytes (shape_of f.now)) × (length numbers.now ≤ 64) × (length cells.old ≡ length numbers.now * size) }
     requires rows_value { rows.old ≡ replicate 128 0 }
-    ensures rows_after { let replies = many_replies (outlined f v.now) numbers.now cells.old in
-        (end_of result ∷ take 64 rows.new ∷ drop 64 rows.new ∷ []) ≡ many_told replies }
-    ensures cells_after { cells.new ≡ many_cells (outlined f v.now) numbers.now cells.old }
+    ensures rows_after { let replies = many_replies (shape_of f.now) numbers.now cells.old in
+        (end_of (length numbers.now) result ∷ take 64 rows.new ∷ drop 64 rows.new ∷ []) ≡ many_told replies }
+    ensures cells_after { cells.new ≡ many_cells (shape_of f.now) numbers.now cells.old }
 {
-    let mut j = 0;
-    while j < numbers.len() {
-        match write_one(h, f, v, cells, j * size, size, numbers[j]) {
-            Writing::Written { generation, turned } => {
-                rows[j] = generation as u16;
-                rows[64 + j] = turned as u16;
-                j += 1;
+    for (j, &x) in numbers.iter().enumerate() {
+        match write_one(f, cells, j * size, size, x) {
+            Ok(made) => {
+                rows[j] = made.generation as u16;
+                rows[64 + j] = made.turned as u16;
             }
-            Writing::Refused(refusal) => {
-                let told = reading::flat_refusal(refusal);
-                return End {
-                    refusal: told.number,
-                    stopped: 1,
-                    field: j as u64,
-                    written: j as u64,
-                    reached: told.generation,
-                    unerased: told.unerased,
-                };
+            Err(refusal) => {
+                return Err(Stop {
+                    field: Some(j),
+                    refusal,
+                });
             }
         }
     }
-    End {
-        refusal: 0,
-        stopped: 0,
-        field: 0,
-        written: j as u64,
-        reached: 0,
-        unerased: 0,
-    }
+    Ok(())
 }
 
 // The tests before any write, and the writes.
-fn write_all(s: Shape, cells: &mut [u8], numbers: &[u64], rows: &mut [u16; 128]) -> End
+fn write_all(s: Shape, cells: &mut [u8], numbers: &[u64], rows: &mut [u16; 128]) -> Result<(), Stop>
     requires { rows.old ≡ replicate 128 0 }
-    ensures rows_after { (end_of result ∷ take 64 rows.new ∷ drop 64 rows.new ∷ []) ≡ many_reply s numbers.now cells.old }
+    ensures rows_after { (end_of (length numbers.now) result ∷ take 64 rows.new ∷ drop 64 rows.new ∷ []) ≡ many_reply s numbers.now cells.old }
     ensures cells_after { cells.new ≡ many_leaves s numbers.now cells.old }
 {
     if NUMBERS_MOST < numbers.len() {
-        return refuse(refusals::NUMBERS);
+        return Err(Refusal::Numbers.into());
     }
     let mut h = [0u64; 16];
-    let f = shapes::outline_of(s);
+    let outline = shapes::outline_of(s);
     let v = s.v;
-    let refusal = layout::lay_into(&mut h, f, &v, 256);
-    if refusal != 0 {
-        return refuse(refusal);
-    }
-    let size = field_bytes(&h, f, &v);
+    layout::lay_into(&mut h, outline, &v, 256)?;
+    let field = Field {
+        outline,
+        v: &v,
+        h: &h,
+    };
+    let size = field_bytes(&field);
     if cells.len() != numbers.len() * size {
-        return refuse(refusals::CELLS);
+        return Err(Refusal::Cells.into());
     }
-    write_fields(&h, f, &v, cells, size, numbers, rows)
+    write_fields(&field, cells, size, numbers, rows)
 }
 
 // One number for each field, written in order; the first refusal ends it, and the fields before it stay written.
@@ -166,12 +154,19 @@ pub fn write_many(s: Shape, cells: &mut [u8], numbers: &[u64]) -> Many
         unerased: 0,
         rows: [0u16; 128],
     };
-    let end = write_all(s, cells, numbers, &mut made.rows);
-    made.refusal = end.refusal;
-    made.stopped = end.stopped;
-    made.field = end.field;
-    made.written = end.written;
-    made.reached = end.reached;
-    made.unerased = end.unerased;
+    match write_all(s, cells, numbers, &mut made.rows) {
+        Ok(()) => made.written = numbers.len() as u64,
+        Err(stop) => {
+            let told = stop.refusal.fields();
+            made.refusal = told.number;
+            made.reached = told.first;
+            made.unerased = told.second;
+            if let Some(j) = stop.field {
+                made.stopped = 1;
+                made.field = j as u64;
+                made.written = j as u64;
+            }
+        }
+    }
     made
 }

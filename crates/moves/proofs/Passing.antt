@@ -15,15 +15,11 @@ use Rattle.code.proofs.Records.{open-short, step-barred}
 use Rattle.code.proofs.Walk.{entered-short, step-forward, walk-ended, walk-stopped, onward-taken}
 use Rattle.code.proofs.Parsed.{entry_of, walk-entered}
 use Rattle.records.specs.Source.{source_of}
-use Rattle.dump.specs.Answers.{halt_number, halt_carries, halt_of, opened_of, Opens, located_of}
+use Rattle.dump.specs.Answers.{halt_number, halt_carries, halt_of, opened_of, Opens}
 use Rattle.dump.specs.declared.Opened.{Opened}
-use Rattle.dump.specs.declared.Opened.TheVariants.{Records, Barred}
+use Rattle.std.proofs.Common.{Result, Ok, Err}
 use Rattle.dump.proofs.Walking.{opened-barred}
 use Rattle.dump.specs.declared.Halt.{Halt}
-use Rattle.dump.specs.declared.Located.{Located}
-use Rattle.dump.specs.declared.Located.TheVariants.{Record as There, End, Stop}
-use Rattle.records.specs.declared.Head.{Head}
-use Rattle.records.specs.Head.{head_record}
 use Rattle.moves.specs.Passes.{Begins, entries_in, said_by}
 
 -- a record with the number of its layout in a list
@@ -55,11 +51,11 @@ passing-begin kind bytes places start o =
     record { entries = ap (entries_of bytes) w; stops = ap stop_of w }
 
 -- a dump whose opening is told: its records begin, or the walk stops before them
-module _ {kind : Kind} {bytes places : List ℕ} {x : Opened} (o : Opens kind bytes places x) where
-  pub opened-begins : {start count : ℕ} → x ≡ Records start count → Begins kind bytes (take count places) start
-  opened-begins e = sym o.opens ∙ ap (opened_of kind bytes places) e
+module _ {kind : Kind} {bytes places : List ℕ} {x : Result Opened Halt} (o : Opens kind bytes places x) where
+  pub opened-begins : (d : Opened) → x ≡ Ok d → Begins kind bytes (take d.layouts places) d.start
+  opened-begins d e = sym o.opens ∙ ap (opened_of kind bytes places) e
 
-  pub opened-stops : {halt : Halt} → x ≡ Barred halt → stop_of (walk kind bytes) ≡ halt_of halt
+  pub opened-stops : {halt : Halt} → x ≡ Err halt → stop_of (walk kind bytes) ≡ halt_of halt
   unfolding walk start_of stop_of
   opened-stops {halt} e =
       let b : opening kind bytes ≡ barred (halt_number halt) (halt_carries halt) = sym (opened-barred o e) in
@@ -69,17 +65,6 @@ module _ {kind : Kind} {bytes places : List ℕ} {x : Opened} (o : Opens kind by
 pub begins-old : (bytes places : List ℕ) (start : ℕ) → Begins Old bytes places start → Begins Old bytes places 0
 unfolding opening_as source_of
 begins-old bytes places start o = open-short Old bytes (entered-short Old bytes _ _ o)
-
--- what stands at a place, as a step
-module _ (kind : Kind) (bytes : List ℕ) (at : ℕ) (source : Source) {x : Located} (e : located_of source x ≡ step kind bytes at) where
-  pub at-record : {h : Head} → x ≡ There h → step kind bytes at ≡ taken (head_record source h)
-  at-record q = sym (ap (located_of source) (sym q) ∙ e)
-
-  pub at-end : x ≡ End → step kind bytes at ≡ ended
-  at-end q = sym (ap (located_of source) (sym q) ∙ e)
-
-  pub at-stop : {halt : Halt} → x ≡ Stop halt → step kind bytes at ≡ stopped (halt_number halt) (halt_carries halt)
-  at-stop q = sym (ap (located_of source) (sym q) ∙ e)
 
 -- the record that a step gives, with its cells
 abbrev pub entry_at : List ℕ → Record → Entry

@@ -31,7 +31,15 @@ use Rattle.records.specs.Source.{source_of}
 use Rattle.moves.specs.Kept.{said_listed}
 use Rattle.moves.proofs.Passing.{entry_at, passing-end}
 use Rattle.moves.proofs.Storing.{moved_at, Measuring, measuring-begin, measuring-first, measuring-next, measuring-gone, measuring-end}
-use Rattle.moves.proofs.Moving.{Moves}
+use Rattle.code.specs.declared.Refusal.TheVariants.{Layouts}
+use Rattle.std.proofs.Common.{Result, Err}
+use Rattle.code.specs.Refusals.{refusal_reply}
+use Rattle.code.specs.declared.Refusal.{Refusal}
+use Rattle.dump.specs.Answers.{halt_of, refusal_of}
+use Rattle.dump.specs.declared.Halt.{Halt}
+use Rattle.moves.specs.Passes.{refused_by, length_refusal}
+use Rattle.storing.specs.Put.{Put}
+use Rattle.moves.proofs.Moving.{Moves, move-halted, move-own, move-refused, move-room, move-stored}
 use Rattle.moves.proofs.Keeping.{kept-long, keeps-none, kept-bytes, kept_small}
 
 -- the records before place `at` come to `total` bytes, and their layouts are kept
@@ -139,8 +147,30 @@ module _ (bytes kept : List ℕ) {total count : ℕ} (c : Collects bytes kept to
 
 -- a move to new by the move's own terms
 module _ (bytes out : List ℕ) where
-  pub moves-new : {reply after : List ℕ} →
-      Moves (stop_of (walk Old bytes)) 13 (ltb 64 (length (first_use [] (entries_in Old bytes)))) (to_new bytes) out reply after →
-      (reply ≡ to_new_reply bytes out) × (after ≡ to_new_leaves bytes out)
+  abbrev pub MovesNew : List ℕ → List ℕ → Type 0
+  MovesNew reply after = (reply ≡ to_new_reply bytes out) × (after ≡ to_new_leaves bytes out)
+
+  moves-new : {reply after : List ℕ} →
+      Moves (stop_of (walk Old bytes)) Layouts (ltb 64 (length (first_use [] (entries_in Old bytes)))) (to_new bytes) out reply after → MovesNew reply after
   unfolding to_new_reply to_new_leaves to_new_refusal
   moves-new m = m
+
+  -- so it answers and leaves what is due: where the walk stops, by its own test, by its length, and stored
+  pub new-halted : (halt : Halt) → stop_of (walk Old bytes) ≡ halt_of halt → MovesNew (refusal_reply (refusal_of halt)) out
+  new-halted halt e = moves-new (move-halted _ Layouts (ltb 64 (length (first_use [] (entries_in Old bytes)))) (to_new bytes) out halt e)
+
+  module _ (whole : stop_of (walk Old bytes) ≡ []) where
+    pub new-own : ltb 64 (length (first_use [] (entries_in Old bytes))) ≡ true → MovesNew (refusal_reply Layouts) out
+    new-own t = moves-new (move-own _ Layouts (ltb 64 (length (first_use [] (entries_in Old bytes)))) (to_new bytes) out whole t)
+
+    module _ (passes : ltb 64 (length (first_use [] (entries_in Old bytes))) ≡ false) (r : Result (Unit {0}) Refusal) (long : ℕ) (is : long ≡ length (to_new bytes))
+        (late : refused_by r ≡ length_refusal long (length out)) where
+      pub new-refused : (e : Refusal) → r ≡ Err e → MovesNew (refusal_reply e) out
+      new-refused e q = moves-new (move-refused _ Layouts (ltb 64 (length (first_use [] (entries_in Old bytes)))) (to_new bytes) out whole passes r long is late e q)
+
+      module _ (q : refused_by r ≡ []) where
+        pub new-room : length (to_new bytes) ≤ length out
+        new-room = move-room _ Layouts (ltb 64 (length (first_use [] (entries_in Old bytes)))) (to_new bytes) out whole passes r long is late q
+
+        pub new-stored : {after : List ℕ} {end : ℕ} → Put out after 0 (to_new bytes) end → MovesNew (0 ∷ end ∷ []) after
+        new-stored p = moves-new (move-stored _ Layouts (ltb 64 (length (first_use [] (entries_in Old bytes)))) (to_new bytes) out whole passes r long is late q p)

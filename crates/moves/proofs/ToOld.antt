@@ -27,7 +27,14 @@ use Rattle.moves.specs.Kept.{said_head, SaysOld}
 use Rattle.moves.specs.Passes.{Begins, entries_in, said_by, old_head}
 use Rattle.moves.proofs.Heads.{list-opened}
 use Rattle.moves.proofs.Storing.{moved_at}
-use Rattle.moves.proofs.Moving.{Moves}
+use Rattle.code.specs.declared.Refusal.TheVariants.{Form}
+use Rattle.std.proofs.Common.{Result, Err}
+use Rattle.code.specs.Refusals.{refusal_reply}
+use Rattle.code.specs.declared.Refusal.{Refusal}
+use Rattle.dump.specs.Answers.{halt_of, refusal_of}
+use Rattle.dump.specs.declared.Halt.{Halt}
+use Rattle.moves.specs.Passes.{refused_by, length_refusal}
+use Rattle.moves.proofs.Moving.{Moves, move-halted, move-own, move-refused, move-room, move-stored}
 
 pub old-said : (bytes : List ℕ) → said_by own_layouts [] (entries_in New bytes) ≡ to_old bytes
 unfolding to_old
@@ -105,7 +112,27 @@ module _ (bytes out : List ℕ) where
   abbrev pub MovesOld : List ℕ → List ℕ → Type 0
   MovesOld reply after = (reply ≡ to_old_reply bytes out) × (after ≡ to_old_leaves bytes out)
 
-  pub moves-old : {reply after : List ℕ} → Moves (stop_of (walk New bytes)) 12 (foreign (listed_in (layout_list bytes))) (to_old bytes) out reply after →
+  moves-old : {reply after : List ℕ} → Moves (stop_of (walk New bytes)) Form (foreign (listed_in (layout_list bytes))) (to_old bytes) out reply after →
       MovesOld reply after
   unfolding to_old_reply to_old_leaves to_old_refusal
   moves-old m = m
+
+  -- so it answers and leaves what is due: where the walk stops, by its own test, by its length, and stored
+  pub old-halted : (halt : Halt) → stop_of (walk New bytes) ≡ halt_of halt → MovesOld (refusal_reply (refusal_of halt)) out
+  old-halted halt e = moves-old (move-halted _ Form (foreign (listed_in (layout_list bytes))) (to_old bytes) out halt e)
+
+  module _ (whole : stop_of (walk New bytes) ≡ []) where
+    pub old-own : foreign (listed_in (layout_list bytes)) ≡ true → MovesOld (refusal_reply Form) out
+    old-own t = moves-old (move-own _ Form (foreign (listed_in (layout_list bytes))) (to_old bytes) out whole t)
+
+    module _ (passes : foreign (listed_in (layout_list bytes)) ≡ false) (r : Result (Unit {0}) Refusal) (long : ℕ) (is : long ≡ length (to_old bytes))
+        (late : refused_by r ≡ length_refusal long (length out)) where
+      pub old-refused : (e : Refusal) → r ≡ Err e → MovesOld (refusal_reply e) out
+      old-refused e q = moves-old (move-refused _ Form (foreign (listed_in (layout_list bytes))) (to_old bytes) out whole passes r long is late e q)
+
+      module _ (q : refused_by r ≡ []) where
+        pub old-room : length (to_old bytes) ≤ length out
+        old-room = move-room _ Form (foreign (listed_in (layout_list bytes))) (to_old bytes) out whole passes r long is late q
+
+        pub old-stored : {after : List ℕ} {end : ℕ} → Put out after 0 (to_old bytes) end → MovesOld (0 ∷ end ∷ []) after
+        old-stored p = moves-old (move-stored _ Form (foreign (listed_in (layout_list bytes))) (to_old bytes) out whole passes r long is late q p)

@@ -1,24 +1,24 @@
 -- Document 02, §3 (RULES 9): what the passes of a move over the records of a dump tell.
-use Rattle.std.specs.Prelude.{ℕ, zero, suc, ◌*◌, ◌≤◌, ◌≡◌, List, [], ◌∷◌, ltb, length, get_or, take, drop}
+use Rattle.std.specs.Prelude.{ℕ, ◌*◌, ◌≤◌, ◌≡◌, List, [], ◌∷◌, ltb, length, get_or, take, drop, Result, Ok, Err}
 use Rattle.code.specs.declared.Kind.{Kind}
 use Rattle.code.specs.declared.Kind.TheVariants.{Old, New}
 use Rattle.code.specs.Calls.{refusal}
+use Rattle.code.specs.Refusals.{refusal_reply}
+use Rattle.code.specs.declared.Refusal.{Refusal}
 use Rattle.code.specs.LayoutList.{Listed}
 use Rattle.code.specs.Dump.{Record, Source, listed_layouts, entered, opening, walk}
 use Rattle.code.specs.NewDump.{Entry, records_of, entries_of, stop_of, first_use, numbered, to_old}
 use Rattle.records.specs.Source.{source_of}
 use Rattle.records.specs.declared.Head.{Head}
 use Rattle.dump.specs.Answers.{halt_of}
+use Rattle.dump.specs.declared.Halt.{Halt}
 use Rattle.moves.specs.Kept.{Keeps}
 use Rattle.moves.specs.declared.to_new.Collected.{Collected}
-use Rattle.moves.specs.declared.to_new.Collected.TheVariants.{Whole as Gathered, Stopped as Halting}
-use Rattle.moves.specs.declared.to_old.Measured.{Measured}
-use Rattle.moves.specs.declared.to_old.Measured.TheVariants.{Whole, Stopped}
 
--- RULES 12: a refusal by its number, 0 where there is none
-abbrev pub refused_by : ℕ → List ℕ
-refused_by zero = []
-refused_by (suc k) = suc k ∷ []
+-- RULES 12: the refusal of a test, nothing where it is passed
+abbrev pub refused_by : {A : Type 0} → Result A Refusal → List ℕ
+refused_by (Ok a) = []
+refused_by (Err k) = refusal_reply k
 
 -- 02, §3; RULES 12: "8 again where the moved dump would pass 65,536 bytes, 9 last", by the moved dump's length and the output's
 unfoldable pub length_refusal : ℕ → ℕ → List ℕ
@@ -45,9 +45,9 @@ abbrev pub cells_at : List ℕ → Head → List ℕ
 cells_at bytes h = take h.count (drop h.start bytes)
 
 -- the first pass of a move to old: the walk meets the end, and the length is that of the old dump; or why it stops
-abbrev pub Measures : List ℕ → Measured → Type 0
-Measures bytes (Whole n) = (stop_of (walk New bytes) ≡ []) × (n ≡ length (to_old bytes))
-Measures bytes (Stopped halt) = stop_of (walk New bytes) ≡ halt_of halt
+abbrev pub Measures : List ℕ → Result ℕ Halt → Type 0
+Measures bytes (Ok n) = (stop_of (walk New bytes) ≡ []) × (n ≡ length (to_old bytes))
+Measures bytes (Err halt) = stop_of (walk New bytes) ≡ halt_of halt
 
 -- the first pass of a move to new: the walk meets the end, the layouts in order of first use are kept, and the records come to `total` bytes where each has
 -- a layout number of one byte
@@ -58,9 +58,9 @@ pub record Collects (bytes kept : List ℕ) (total count : ℕ) : Type 0 where
   pub few : total ≤ 46 * length bytes
 
 -- or why it stops
-abbrev pub Gathers : List ℕ → List ℕ → Collected → Type 0
-Gathers bytes kept (Gathered total count) = Collects bytes kept total count
-Gathers bytes kept (Halting halt) = stop_of (walk Old bytes) ≡ halt_of halt
+abbrev pub Gathers : List ℕ → List ℕ → Result Collected Halt → Type 0
+Gathers bytes kept (Ok c) = Collects bytes kept c.total c.layouts
+Gathers bytes kept (Err halt) = stop_of (walk Old bytes) ≡ halt_of halt
 
 -- 02, §3; RULES 9: "records of serial, layout number from 0": the bytes of an old dump's records with the numbers of their layouts in a list
 abbrev pub numbered_by : List Listed → List ℕ → List ℕ

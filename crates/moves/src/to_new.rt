@@ -12,19 +12,19 @@ ghost use Rattle.moves.specs.Answers.{moved_of};
 ghost use Rattle.moves.specs.Kept.{kept_at, said_listed, kept_layouts, Keeps};
 ghost use Rattle.moves.specs.Passes.{Begins, cells_at, Collects, Gathers, numbered_by};
 
-use crate::{LAYOUTS_MOST, Moved};
-use code::{Kind, refusals};
-use dump::{Halt, Located};
-use records::{Head, Said};
+use crate::LAYOUTS_MOST;
+use code::{Kind, Refusal};
+use dump::Halt;
+use records::Said;
 
 // The numbers of all layouts that are kept: form, m, t, v of each.
 const KEPT_MOST: usize = 4 * LAYOUTS_MOST;
 
-// What the first pass comes to: the length of all records moved and the count of their layouts, or why the walk stops.
+// What the first pass comes to: the length of all records moved and the count of their layouts.
 #[derive(Clone, Copy)]
-pub enum Collected {
-    Whole { total: usize, layouts: usize },
-    Stopped(Halt),
+pub struct Collected {
+    pub total: usize,
+    pub layouts: usize,
 }
 
 // Whether the layout at a place of those kept is this one. The form is looked at last: in old dumps it is always 0.
@@ -50,12 +50,10 @@ fn place_of(kept: &[u64], count: usize, said: Said) -> usize
     requires { 4 * count ≤ length kept.now }
     ensures { result ≡ place_of (kept_layouts count kept.now) (said_listed said) }
 {
-    let mut i = 0;
-    while i < count {
+    for i in 0..count {
         if is_kept(kept, i, said) {
             return i;
         }
-        i += 1;
     }
     count
 }
@@ -82,38 +80,21 @@ fn keep_layout(kept: &mut [u64], count: usize, said: Said) -> usize
     count + 1
 }
 
-// The length of a record with the number of its layout, which takes one byte.
-fn new_length(head: Head) -> usize
-    requires { (head.serial < 2 ^ 63) × (head.count < 2 ^ 63) }
-    ensures { (cells : List ℕ) → length cells ≡ head.count → result ≡ length (record_of (head.serial ∷ 0 ∷ []) cells) }
-{
-    let numbers = [head.serial, 0];
-    records::record_length(&numbers, head.count)
-}
-
 // Keeps the layouts of all records in order of first use. A 65th does not end the pass: 02, §3 has "7 and 8 first", also a 7 behind it.
-fn collect(dump: &[u8], places: &[u16], kept: &mut [u64]) -> Collected
+fn collect(dump: &[u8], places: &[u16], kept: &mut [u64]) -> Result<Collected, Halt>
     requires { Begins Old dump.now places.now 0 × (length kept.old ≡ 256) }
     ensures { Gathers dump.now kept.new result }
 {
     let mut at = 0;
     let mut total = 0;
     let mut layouts = 0;
-    loop {
-        match dump::locate(dump, Kind::Old, places, at) {
-            Located::Record(head) => {
-                layouts = keep_layout(kept, layouts, head.said);
-                total += new_length(head);
-                at = head.start + head.count;
-            }
-            Located::End => {
-                return Collected::Whole { total, layouts };
-            }
-            Located::Stop(halt) => {
-                return Collected::Stopped(halt);
-            }
-        }
+    while let Some(head) = dump::locate(dump, Kind::Old, places, at)? {
+        layouts = keep_layout(kept, layouts, head.said);
+        // The number of a layout takes one byte, as 0 does.
+        total += records::record_length(&[head.serial, 0], head.count);
+        at = head.start + head.count;
     }
+    Ok(Collected { total, layouts })
 }
 
 // Stores the layout list at the front of `out`: 02, §3, "the count of layouts (at most 64), then form, m, t, v of each". So small a count is one byte.
@@ -124,20 +105,7 @@ fn put_list(kept: &[u64], layouts: usize, out: &mut [u8]) -> usize
 {
     let end = 4 * layouts;
     let behind = storing::put_byte(out, 0, layouts as u8);
-    numerals::write_numbers(out, behind, &kept[0..end])
-}
-
-// Stores a record with the number of its layout at a place of `out`, or nothing where it does not fit.
-fn put_new(dump: &[u8], head: Head, number: u64, out: &mut [u8], place: usize) -> usize
-    requires { (head.serial < 2 ^ 63) × (number < 2 ^ 63) × (head.start + head.count ≤ length dump.now) × (place ≤ length out.old) }
-    ensures { let moved = record_of (head.serial ∷ number ∷ []) (cells_at dump.now head) in
-        Put out.old out.new place (fitting out.old place moved) result }
-{
-    let numbers = [head.serial, number];
-    if !records::fits(&numbers, head.count, out.len() - place) {
-        return place;
-    }
-    crate::put_moved(dump, head, &numbers, out, place)
+    numerals::write_numbers(out, behind, &kept[..end])
 }
 
 // Stores all records of a dump with the numbers of their layouts from a place of `out` on.
@@ -156,22 +124,13 @@ fn put_records(
 {
     let mut at = 0;
     let mut place = first;
-    loop {
-        match dump::locate(dump, Kind::Old, places, at) {
-            Located::Record(head) => {
-                let number = place_of(kept, layouts, head.said);
-                place = put_new(dump, head, number as u64, out, place);
-                at = head.start + head.count;
-            }
-            Located::End => {
-                return place;
-            }
-            // The first pass met none.
-            Located::Stop(_) => {
-                return place;
-            }
-        }
+    // A stop would end it too: the first pass met none.
+    while let Ok(Some(head)) = dump::locate(dump, Kind::Old, places, at) {
+        let number = place_of(kept, layouts, head.said);
+        place = crate::put_moved(dump, head, &[head.serial, number as u64], out, place);
+        at = head.start + head.count;
     }
+    place
 }
 
 // What the second pass makes of what the first came to.
@@ -182,34 +141,29 @@ fn store(
     layouts: usize,
     total: usize,
     out: &mut [u8],
-) -> Moved
+) -> Result<usize, Refusal>
     requires { Begins Old dump.now places.now 0 × Collects dump.now kept.now total layouts }
     ensures result_value { moved_of result ≡ to_new_reply dump.now out.old }
     ensures out_after { out.new ≡ to_new_leaves dump.now out.old }
 {
     if LAYOUTS_MOST < layouts {
-        return Moved::Refused(refusals::LAYOUTS);
+        return Err(Refusal::Layouts);
     }
     let end = 4 * layouts;
-    let long = 1 + numerals::numbers_length(&kept[0..end]) + total;
-    let refusal = crate::refuse_length(long, out.len());
-    if refusal != 0 {
-        return Moved::Refused(refusal);
-    }
+    let long = 1 + numerals::numbers_length(&kept[..end]) + total;
+    crate::test_length(long, out.len())?;
     let first = put_list(kept, layouts, out);
-    Moved::Stored(put_records(dump, places, kept, layouts, out, first))
+    Ok(put_records(dump, places, kept, layouts, out, first))
 }
 
 // Moves a dump that is opened.
-pub fn move_records(dump: &[u8], places: &[u16], out: &mut [u8]) -> Moved
+pub fn move_records(dump: &[u8], places: &[u16], out: &mut [u8]) -> Result<usize, Refusal>
     requires { Begins Old dump.now places.now 0 }
     ensures result_value { moved_of result ≡ to_new_reply dump.now out.old }
     ensures out_after { out.new ≡ to_new_leaves dump.now out.old }
 {
     // Today's compiler clears so many numbers by a call of memset before it fills them, with ones too (docs/PORT.md).
     let mut kept = [1u64; KEPT_MOST];
-    match collect(dump, places, &mut kept) {
-        Collected::Whole { total, layouts } => store(dump, places, &kept, layouts, total, out),
-        Collected::Stopped(halt) => crate::stop_move(halt),
-    }
+    let Collected { total, layouts } = collect(dump, places, &mut kept)?;
+    store(dump, places, &kept, layouts, total, out)
 }

@@ -10,11 +10,12 @@ use lib.Arith.{lt_of_le-ne}
 use lib.ListN.{length, get_or, drop, drop_of_length-le, take, set, length-set}
 use lib.Seq.{drop-cons, take_all, take-suc-set}
 use Rattle.code.specs.Numerals.{Numeral, malformed, numeral, longer, read_sevens, Numbers, cut, numbers, preceded, read_numbers}
-use Rattle.code.proofs.Tests.{le-or-lt, clash}
+use Rattle.code.proofs.Tests.{le-or-lt}
 use Rattle.code.proofs.Numerals.{read-last, read_more}
 use Rattle.code.proofs.Records.{numbers-one, numbers-cut}
 use Rattle.numerals.specs.Number.{number_of}
-use Rattle.numerals.specs.declared.Number.TheVariants.{Found, Malformed}
+use Rattle.numerals.specs.declared.Number.{Number}
+use Rattle.std.proofs.Common.{None, Some}
 
 -- what is read behind k groups that come to `value`, their top bits set; 0 behind them is not shortest
 unfoldable pub after : ℕ → ℕ → ℕ → Numeral → Numeral
@@ -66,9 +67,6 @@ reading-begin bytes at low inside e small = record {
 }
 
 module _ {bytes : List ℕ} {at value worth i : ℕ} (r : Reading bytes at value worth i) where
-  pub reading_small : (b : ℕ) → b < 128 → value + b * worth < 2 ^ 63
-  reading_small b low = omega (arith, r.small, r.large, mul-le-mul_right {m = b} {n = 127} worth (omega arith))
-
   -- the byte at the place and what is behind it
   ahead : i < length bytes → read_sevens 9 (drop at bytes) ≡ after value worth r.k (read_sevens (suc (8 - r.k)) (get_or bytes i 0 ∷ drop (suc i) bytes))
   ahead inside = rw (drop-cons bytes i 0 inside) at r.same
@@ -133,23 +131,22 @@ led-all [] ys end = refl
 led-all (x ∷ xs) ys end = rw (led-all xs ys end)
 
 -- a number that is found, and one that is not
-found : (bytes : List ℕ) (at x next : ℕ) → Found x next ≡ number_of at (read_sevens 9 (drop at bytes)) → (k : ℕ) →
-    read_numbers (suc k) bytes at ≡ preceded x (read_numbers k bytes next)
-found bytes at x next e k = go (read_sevens 9 (drop at bytes)) refl e
+found : (bytes : List ℕ) (at k : ℕ) (x : Number) → Some x ≡ number_of at (read_sevens 9 (drop at bytes)) →
+    read_numbers (suc k) bytes at ≡ preceded x.value (read_numbers k bytes x.next)
+found bytes at k x e = go (read_sevens 9 (drop at bytes)) refl e
   where
-    go : (r : Numeral) → read_sevens 9 (drop at bytes) ≡ r → Found x next ≡ number_of at r → read_numbers (suc k) bytes at ≡ preceded x (read_numbers k bytes next)
-    go malformed q e = clash (cc)
+    go : (r : Numeral) → read_sevens 9 (drop at bytes) ≡ r → Some x ≡ number_of at r → read_numbers (suc k) bytes at ≡ preceded x.value (read_numbers k bytes x.next)
+    go malformed q e = absurd (cc)
     go (numeral y n) q e =
-        let x-is : x ≡ y = cc in
-        let next-is : next ≡ at + n = cc in
-        rw (x-is, next-is) (numbers-one k bytes at y n q)
+        let x-is : x ≡ record { value = y; next = at + n } = cc in
+        rw x-is (numbers-one k bytes at y n q)
 
-lost : (bytes : List ℕ) (at k : ℕ) → Malformed ≡ number_of at (read_sevens 9 (drop at bytes)) → read_numbers (suc k) bytes at ≡ cut
+lost : (bytes : List ℕ) (at k : ℕ) → None ≡ number_of at (read_sevens 9 (drop at bytes)) → read_numbers (suc k) bytes at ≡ cut
 lost bytes at k e = go (read_sevens 9 (drop at bytes)) refl e
   where
-    go : (r : Numeral) → read_sevens 9 (drop at bytes) ≡ r → Malformed ≡ number_of at r → read_numbers (suc k) bytes at ≡ cut
+    go : (r : Numeral) → read_sevens 9 (drop at bytes) ≡ r → None ≡ number_of at r → read_numbers (suc k) bytes at ≡ cut
     go malformed q e = numbers-cut k bytes at q
-    go (numeral y n) q e = clash (cc)
+    go (numeral y n) q e = absurd (cc)
 
 -- the first i of k numbers are read, and `next` is the place behind them
 pub record Heading (k : ℕ) (bytes : List ℕ) (at : ℕ) (xs : List ℕ) (next i : ℕ) : Type 0 where
@@ -162,16 +159,16 @@ unfolding led_by
 heading-begin bytes at xs = record { long = refl; most = omega arith; reads = rw sub-zero refl }
 
 module _ {k : ℕ} {bytes : List ℕ} {at : ℕ} {xs : List ℕ} {next i : ℕ} (h : Heading k bytes at xs next i) where
-  pub heading-next : (x n : ℕ) → i < k → Found x n ≡ number_of next (read_sevens 9 (drop next bytes)) → Heading k bytes at (set xs i x) n (i + 1)
-  heading-next x n l e =
+  pub heading-next : (x : Number) → i < k → Some x ≡ number_of next (read_sevens 9 (drop next bytes)) → Heading k bytes at (set xs i x.value) x.next (i + 1)
+  heading-next x l e =
       let s : k - i ≡ suc (k - suc i) = omega arith in
       record {
-        long = length-set xs i x ∙ h.long;
+        long = length-set xs i x.value ∙ h.long;
         most = omega arith;
-        reads = rw (add-one i, take-suc-set xs i x (omega (arith, h.long)), led-more, ← found bytes next x n e (k - suc i), ← s) h.reads;
+        reads = rw (add-one i, take-suc-set xs i x.value (omega (arith, h.long)), led-more, ← found bytes next (k - suc i) x e, ← s) h.reads;
       }
 
-  pub heading-cut : i < k → Malformed ≡ number_of next (read_sevens 9 (drop next bytes)) → cut ≡ read_numbers k bytes at
+  pub heading-cut : i < k → None ≡ number_of next (read_sevens 9 (drop next bytes)) → cut ≡ read_numbers k bytes at
   heading-cut l e =
       let s : k - i ≡ suc (k - suc i) = omega arith in
       rw (h.reads, s, lost bytes next (k - suc i) e, led-cut)

@@ -7,58 +7,54 @@ ghost use Rattle.code.specs.Numerals.{sevens, read_sevens, numerals_of, read_num
 ghost use Rattle.storing.specs.Put.{Put};
 ghost use Rattle.numerals.specs.Number.{number_of, numbers_of};
 
+// A number that is found: its value and the place behind it.
 #[derive(Clone, Copy)]
-pub enum Number {
-    Found { value: u64, next: usize },
-    Malformed,
+pub struct Number {
+    pub value: u64,
+    pub next: usize,
 }
 
 // What the ninth group counts for: 128^8.
 const NINTH: u64 = 0x0100_0000_0000_0000;
 
-pub fn read_number(bytes: &[u8], at: usize) -> Number
+pub fn read_number(bytes: &[u8], at: usize) -> Option<Number>
     ensures { result ≡ number_of at (read_sevens 9 (drop at bytes.now)) }
 {
-    if bytes.len() <= at {
-        return Number::Malformed;
-    }
-    let first = bytes[at] as u64;
+    let first = u64::from(*bytes.get(at)?);
     if first < 128 {
-        return Number::Found {
+        return Some(Number {
             value: first,
             next: at + 1,
-        };
+        });
     }
     read_longer(bytes, at, first - 128)
 }
 
 // The rest of a number whose first byte is not its last.
-fn read_longer(bytes: &[u8], at: usize, low: u64) -> Number
+fn read_longer(bytes: &[u8], at: usize, low: u64) -> Option<Number>
     requires { (at < length bytes.now) × (get_or bytes.now at 0 ≡ low + 128) × (low < 128) }
     ensures { result ≡ number_of at (read_sevens 9 (drop at bytes.now)) }
 {
     let mut value = low;
     let mut worth: u64 = 128;
-    let mut i = at + 1;
-    while i < bytes.len() {
-        let byte = bytes[i] as u64;
+    for i in at + 1..bytes.len() {
+        let byte = u64::from(bytes[i]);
         if byte < 128 {
             if byte == 0 {
-                return Number::Malformed;
+                return None;
             }
-            return Number::Found {
+            return Some(Number {
                 value: value + byte * worth,
                 next: i + 1,
-            };
+            });
         }
         if worth == NINTH {
-            return Number::Malformed;
+            return None;
         }
         value += (byte - 128) * worth;
         worth *= 128;
-        i += 1;
     }
-    Number::Malformed
+    None
 }
 
 pub fn number_length(x: u64) -> usize
@@ -89,28 +85,17 @@ pub fn write_number(out: &mut [u8], at: usize, x: u64) -> usize
     place + 1
 }
 
-// Numbers one after the other: the place behind them.
-#[derive(Clone, Copy)]
-pub enum Numbers {
-    Read { end: usize },
-    Cut,
-}
-
-// Reads as many numbers as there are places for.
-pub fn read_numbers(bytes: &[u8], at: usize, numbers: &mut [u64]) -> Numbers
+// Reads as many numbers as there are places for, one after the other: the place behind them.
+pub fn read_numbers(bytes: &[u8], at: usize, numbers: &mut [u64]) -> Option<usize>
     ensures { numbers_of numbers.new result ≡ read_numbers (length numbers.old) bytes.now at }
 {
     let mut end = at;
-    let mut i = 0;
-    while i < numbers.len() {
-        let Number::Found { value, next } = read_number(bytes, end) else {
-            return Numbers::Cut;
-        };
-        numbers[i] = value;
+    for number in numbers.iter_mut() {
+        let Number { value, next } = read_number(bytes, end)?;
+        *number = value;
         end = next;
-        i += 1;
     }
-    Numbers::Read { end }
+    Some(end)
 }
 
 pub fn numbers_length(numbers: &[u64]) -> usize
@@ -118,10 +103,8 @@ pub fn numbers_length(numbers: &[u64]) -> usize
     ensures { result ≡ length (numerals_of numbers.now) }
 {
     let mut total = 0;
-    let mut i = 0;
-    while i < numbers.len() {
-        total += number_length(numbers[i]);
-        i += 1;
+    for &number in numbers {
+        total += number_length(number);
     }
     total
 }
@@ -131,10 +114,8 @@ pub fn write_numbers(out: &mut [u8], at: usize, numbers: &[u64]) -> usize
     ensures { Put out.old out.new at (numerals_of numbers.now) result }
 {
     let mut place = at;
-    let mut i = 0;
-    while i < numbers.len() {
-        place = write_number(out, place, numbers[i]);
-        i += 1;
+    for &number in numbers {
+        place = write_number(out, place, number);
     }
     place
 }

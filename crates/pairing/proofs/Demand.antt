@@ -19,28 +19,29 @@ use Rattle.code.proofs.Records.{below_at}
 use Rattle.code.proofs.Demand.{blank_cells}
 use Rattle.code.proofs.PairCall.{Seen, pair-refuses}
 use Rattle.code.proofs.Pairs as Code
-use Rattle.reading.specs.declared.Refusal.{Refusal}
-use Rattle.reading.specs.declared.Refusal.TheVariants.{Plain}
-use Rattle.reading.specs.Answers.{refusal_of}
-use Rattle.reading.proofs.Unique.{refusal-not}
-use Rattle.pairing.specs.declared.PairReading.{PairReading}
-use Rattle.pairing.specs.declared.PairReading.TheVariants.{Read}
-use Rattle.pairing.specs.declared.PairWriting.{PairWriting}
-use Rattle.pairing.specs.declared.PairWriting.TheVariants.{Written, Refused}
-use Rattle.pairing.specs.Answers.{pair_reading_of, pair_writing_of, PairAnswers}
+use Rattle.std.specs.Prelude.{Result, Ok, Err}
+use Rattle.code.specs.declared.Refusal.{Refusal}
+use Rattle.code.specs.declared.Refusal.TheVariants.{Spent}
+use Rattle.code.specs.Refusals.{refusal_reply}
+use Rattle.code.proofs.Refused.{refused-not}
+use Rattle.pairing.specs.declared.Side.{Side}
+use Rattle.pairing.specs.declared.Side.TheVariants.{First, Second}
+use Rattle.pairing.specs.declared.PairRead.{PairRead}
+use Rattle.pairing.specs.declared.PairWritten.{PairWritten}
+use Rattle.pairing.specs.Answers.{field_of, pair_reading_of, pair_writing_of, PairAnswers}
 use Rattle.pairing.proofs.PairReads.{is-equal}
 use Rattle.pairing.proofs.Unique.{same-pair-reading, same-pair-writing}
 
-abbrev pub accepts : PairWriting → Bool
-accepts (Written f i n) = true
-accepts (Refused k) = false
+abbrev pub accepts : Result PairWritten Refusal → Bool
+accepts (Ok w) = true
+accepts (Err k) = false
 
 -- the writes left in both fields
 abbrev pub left_in_both : Pair → List ℕ → List ℕ → ℕ
 left_in_both p first second = left p.t1 (field_read (first_shape p) first) + left p.t2 (field_read (second_shape p) second)
 
 -- a write that passes every test is not answered by a refusal
-not-refused : (p : Pair) (x : ℕ) (first second : List ℕ) → pair_write_refusal p x first second ≡ [] → (k : Refusal) → refusal_of k ≡ pair_write_reply p x first second → ⊥
+not-refused : (p : Pair) (x : ℕ) (first second : List ℕ) → pair_write_refusal p x first second ≡ [] → (k : Refusal) → refusal_reply k ≡ pair_write_reply p x first second → ⊥
 unfolding pair_write_reply pair_written answer
 not-refused p x first second e k q = go (first_spent p first) refl
   where
@@ -48,56 +49,62 @@ not-refused p x first second e k q = go (first_spent p first) refl
     go true f =
         let w = write_reply (second_shape p) (second_due p x first) second in
         let told : pair_write_reply p x first second ≡ 0 ∷ 1 ∷ generation_in w ∷ turned_in w ∷ [] = rw (e, f) in
-        refusal-not k (sym (q ∙ told))
+        refused-not k (q ∙ told)
     go false f =
         let w = write_reply (first_shape p) (first_due p x second) first in
         let told : pair_write_reply p x first second ≡ 0 ∷ 0 ∷ generation_in w ∷ turned_in w ∷ [] = rw (e, f) in
-        refusal-not k (sym (q ∙ told))
+        refused-not k (q ∙ told)
 
 -- One write.
-module _ (p : Pair) (x : ℕ) (first second : List ℕ) (r : PairWriting) (one two : List ℕ)
+module _ (p : Pair) (x : ℕ) (first second : List ℕ) (r : Result PairWritten Refusal) (one two : List ℕ)
     (promise : PairAnswers p x first second (pair_writing_of r) one two) where
   -- a write that is made passed every test
   passed : accepts r ≡ true → pair_write_refusal p x first second ≡ []
   unfolding pair_write_reply answer
   passed made = go r made (pair_write_refusal p x first second) refl promise.0
     where
-      go : (r : PairWriting) → accepts r ≡ true → (l : List ℕ) → pair_write_refusal p x first second ≡ l → pair_writing_of r ≡ pair_write_reply p x first second → l ≡ []
-      go (Written f i n) a [] e q = refl
-      go (Written f i n) a (k ∷ carried) e q =
+      go : (r : Result PairWritten Refusal) → accepts r ≡ true → (l : List ℕ) → pair_write_refusal p x first second ≡ l → pair_writing_of r ≡ pair_write_reply p x first second → l ≡ []
+      go (Ok w) a [] e q = refl
+      go (Ok w) a (k ∷ carried) e q =
           let z : k ≡ 0 = cc (pair-refuses p first second x k carried e).0 in
           absurd (omega (arith, Code.pair-some p x first second k carried e))
-      go (Refused k) a l e q = absurd (true≢false (sym a))
+      go (Err k) a l e q = absurd (true≢false (sym a))
 
   -- the other way too
   passes : pair_write_refusal p x first second ≡ [] → accepts r ≡ true
   passes e = go r promise.0
     where
-      go : (r : PairWriting) → pair_writing_of r ≡ pair_write_reply p x first second → accepts r ≡ true
-      go (Written f i n) q = refl
-      go (Refused k) q = absurd (not-refused p x first second e k q)
+      go : (r : Result PairWritten Refusal) → pair_writing_of r ≡ pair_write_reply p x first second → accepts r ≡ true
+      go (Ok w) q = refl
+      go (Err k) q = absurd (not-refused p x first second e k q)
 
   -- What was written reads back.
-  pub reads-back : Bytes first → Bytes second → accepts r ≡ true → (a : PairReading) → pair_reading_of a ≡ pair_read_reply p one two →
-      a ≡ Read x (left_in_both p one two)
+  pub reads-back : Bytes first → Bytes second → accepts r ≡ true → (a : Result PairRead Refusal) → pair_reading_of a ≡ pair_read_reply p one two →
+      a ≡ Ok (record { number = x; left = left_in_both p one two })
   reads-back A B made a q =
       let W = Code.pair_step p x first second A B (Code.pair-passed p x first second (passed made)) in
-      same-pair-reading a (Read x (left_in_both p one two)) (q ∙ rw (promise.1.0, promise.1.1) W.reads)
+      same-pair-reading a (Ok (record { number = x; left = left_in_both p one two })) (q ∙ rw (promise.1.0, promise.1.1) W.reads)
 
   -- One field is as it was, whatever the answer; the other one is the field that is told.
   pub one_field : (one ≡ first) ⊎ (two ≡ second)
   one_field = rw (promise.1.0, promise.1.1) (Code.one_field p x first second)
 
-  pub told-field : (f i n : ℕ) → r ≡ Written f i n → ((f ≡ 0) × (two ≡ second)) ⊎ ((f ≡ 1) × (one ≡ first))
-  told-field f i n made =
-      let q : 0 ∷ f ∷ i ∷ n ∷ [] ≡ pair_write_reply p x first second = rw made at promise.0 in
-      rw (promise.1.0, promise.1.1) (Code.field_told_lem p x first second f i n (sym q))
+  pub told-field : (w : PairWritten) → r ≡ Ok w → ((w.side ≡ First) × (two ≡ second)) ⊎ ((w.side ≡ Second) × (one ≡ first))
+  told-field w made =
+      let q : 0 ∷ field_of w.side ∷ w.generation ∷ w.turned ∷ [] ≡ pair_write_reply p x first second = rw made at promise.0 in
+      go w.side (rw (promise.1.0, promise.1.1) (Code.field_told_lem p x first second (field_of w.side) w.generation w.turned (sym q)))
+    where
+      go : (s : Side) → ((field_of s ≡ 0) × (two ≡ second)) ⊎ ((field_of s ≡ 1) × (one ≡ first)) → ((s ≡ First) × (two ≡ second)) ⊎ ((s ≡ Second) × (one ≡ first))
+      go First (inl q) = inl (refl, q.1)
+      go First (inr q) = absurd (omega (arith, q.0))
+      go Second (inl q) = absurd (omega (arith, q.0))
+      go Second (inr q) = inr (refl, q.1)
 
   -- A refusal leaves both.
-  pub refused-keeps : (k : Refusal) → r ≡ Refused k → (one ≡ first) × (two ≡ second)
+  pub refused-keeps : (k : Refusal) → r ≡ Err k → (one ≡ first) × (two ≡ second)
   refused-keeps k made = rw (promise.1.0, promise.1.1) (go (pair_write_refusal p x first second) refl (rw made at promise.0))
     where
-      go : (l : List ℕ) → pair_write_refusal p x first second ≡ l → refusal_of k ≡ pair_write_reply p x first second →
+      go : (l : List ℕ) → pair_write_refusal p x first second ≡ l → refusal_reply k ≡ pair_write_reply p x first second →
           (pair_first_leaves p x first second ≡ first) × (pair_second_leaves p x first second ≡ second)
       go [] e q = absurd (not-refused p x first second e k q)
       go (j ∷ carried) e q = let w = pair-refuses p first second x j carried e in (w.1, w.2)
@@ -107,7 +114,7 @@ module _ (p : Pair) (x : ℕ) (first second : List ℕ) (r : PairWriting) (one t
   never-falls A B w = rw (promise.1.0, promise.1.1) (Code.pair-rises p x first second A B w)
 
 -- A run of calls from blank cells: call j gets the cells that the call before left, and its answer is one that its promise allows.
-pub record Calls (p : Pair) (xs : List ℕ) (first second : ℕ → List ℕ) (answers : ℕ → PairWriting) : Type 0 where
+pub record Calls (p : Pair) (xs : List ℕ) (first second : ℕ → List ℕ) (answers : ℕ → Result PairWritten Refusal) : Type 0 where
   pub blank : (first 0 ≡ blank_cells (first_shape p)) × (second 0 ≡ blank_cells (second_shape p))
   pub each : (j : ℕ) → j < length xs → PairAnswers p (get_or xs j 0) (first j) (second j) (pair_writing_of (answers j)) (first (suc j)) (second (suc j))
 
@@ -122,7 +129,7 @@ record Stands (p : Pair) (first second : List ℕ) : Type 0 where
   two : Seen (second_shape p) false second
 
 module _ (p : Pair) (same : p.v1 ≡ p.v2) (ok : layout_refusal (first_shape p) 256 ≡ []) (ok' : layout_refusal (second_shape p) 256 ≡ []) (xs : List ℕ)
-    (first second : ℕ → List ℕ) (answers : ℕ → PairWriting) (C : Calls p xs first second answers) (b : Below p.v1 xs) where
+    (first second : ℕ → List ℕ) (answers : ℕ → Result PairWritten Refusal) (C : Calls p xs first second answers) (b : Below p.v1 xs) where
   next-accepted : (j : ℕ) → j < length xs → Stands p (first j) (second j) → used_in_both p (first j) (second j) < p.t1 + p.t2 →
       pair_write_refusal p (get_or xs j 0) (first j) (second j) ≡ []
   next-accepted j l S u = Code.pair-accepts p (get_or xs j 0) (first j) (second j) (is-equal p same) S.one S.two (below_at p.v1 xs j b l) u
@@ -152,8 +159,8 @@ module _ (p : Pair) (same : p.v1 ≡ p.v2) (ok : layout_refusal (first_shape p) 
       passes p (get_or xs j 0) (first j) (second j) (answers j) (first (suc j)) (second (suc j)) (C.each j l) z
 
   -- And each reads back.
-  pub reads-after-each : (j : ℕ) → j < length xs → j < p.t1 + p.t2 → (a : PairReading) → pair_reading_of a ≡ pair_read_reply p (first (suc j)) (second (suc j)) →
-      a ≡ Read (get_or xs j 0) (left_in_both p (first (suc j)) (second (suc j)))
+  pub reads-after-each : (j : ℕ) → j < length xs → j < p.t1 + p.t2 → (a : Result PairRead Refusal) → pair_reading_of a ≡ pair_read_reply p (first (suc j)) (second (suc j)) →
+      a ≡ Ok (record { number = get_or xs j 0; left = left_in_both p (first (suc j)) (second (suc j)) })
   reads-after-each j l m a q =
       let S = (stands j (omega arith) (omega arith)).0 in
       reads-back p (get_or xs j 0) (first j) (second j) (answers j) (first (suc j)) (second (suc j)) (C.each j l) S.bytes.0 S.bytes.1 (accepted j l m) a q
@@ -198,5 +205,5 @@ module _ (p : Pair) (same : p.v1 ≡ p.v2) (ok : layout_refusal (first_shape p) 
         let S = stands-new new j (omega arith) in
         let z = spent-refused j l S.0 (omega (arith, S.1)) in
         let q = (C.each j l).0 ∙ (pair-refuses p (first j) (second j) (get_or xs j 0) 5 [] z).0 in
-        rw (lt-leb (suc j) (p.t1 + p.t2) full) (ap accepts (same-pair-writing (answers j) (Refused (Plain 5)) q))
+        rw (lt-leb (suc j) (p.t1 + p.t2) full) (ap accepts (same-pair-writing (answers j) (Err Spent) q))
   ]

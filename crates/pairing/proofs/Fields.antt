@@ -1,32 +1,18 @@
 -- The refusal of a pair in the five fields of an answer.
-use mathlib.Core.Path.{◌≡◌, refl, sym}
+use mathlib.Core.Path.{◌≡◌}
 use mathlib.Core.List.{[], ◌∷◌}
-use lib.Dec.{eqb}
-use lib.ListN.{get_or}
+use Rattle.code.specs.declared.Refusal.{Refusal}
+use Rattle.code.specs.declared.RefusalFields.{RefusalFields}
 use Rattle.code.specs.Calls.{filled}
 use Rattle.code.specs.Pair.{pair_read_fields, pair_write_fields}
-use Rattle.reading.specs.declared.Refusal.{Refusal}
-use Rattle.reading.specs.declared.Refusal.TheVariants.{Plain, Miscounted, Beyond}
-use Rattle.reading.specs.declared.RefusalFields.{RefusalFields}
-use Rattle.reading.specs.Answers.{refusal_of}
-use Rattle.reading.proofs.Refusals.{Told, either}
+use Rattle.code.specs.Refusals.{refusal_reply}
+use Rattle.code.proofs.Refused.{refusal_fields_of, fields-told, numbered}
 
-pub read-fields-refused : (k : Refusal) (told : RefusalFields) → Told k told →
-    told.number ∷ 0 ∷ 0 ∷ told.generation ∷ told.unerased ∷ [] ≡ pair_read_fields (refusal_of k)
-unfolding filled pair_read_fields
-read-fields-refused k told t = rw (t.number, t.generation, t.unerased) (go k)
-  where
-    go : (k : Refusal) → get_or (refusal_of k) 0 0 ∷ 0 ∷ 0 ∷ get_or (refusal_of k) 1 0 ∷ get_or (refusal_of k) 2 0 ∷ [] ≡ pair_read_fields (refusal_of k)
-    go (Plain n) = sym (either (eqb n 0) (n ∷ 0 ∷ 0 ∷ 0 ∷ 0 ∷ []))
-    go (Miscounted i u) = refl
-    go (Beyond i) = refl
+module _ (k : Refusal) (c : RefusalFields) (told : refusal_fields_of c ≡ filled 3 (refusal_reply k)) where
+  pub read-fields-refused : c.number ∷ 0 ∷ 0 ∷ c.first ∷ c.second ∷ [] ≡ pair_read_fields (refusal_reply k)
+  unfolding pair_read_fields
+  read-fields-refused = let t = fields-told k c told in rw (t.0, t.1, t.2, numbered k c told)
 
-pub write-fields-refused : (k : Refusal) (told : RefusalFields) → Told k told →
-    told.number ∷ 0 ∷ told.generation ∷ 0 ∷ told.unerased ∷ [] ≡ pair_write_fields (refusal_of k)
-unfolding filled pair_write_fields
-write-fields-refused k told t = rw (t.number, t.generation, t.unerased) (go k)
-  where
-    go : (k : Refusal) → get_or (refusal_of k) 0 0 ∷ 0 ∷ get_or (refusal_of k) 1 0 ∷ 0 ∷ get_or (refusal_of k) 2 0 ∷ [] ≡ pair_write_fields (refusal_of k)
-    go (Plain n) = sym (either (eqb n 0) (n ∷ 0 ∷ 0 ∷ 0 ∷ 0 ∷ []))
-    go (Miscounted i u) = refl
-    go (Beyond i) = refl
+  pub write-fields-refused : c.number ∷ 0 ∷ c.first ∷ 0 ∷ c.second ∷ [] ≡ pair_write_fields (refusal_reply k)
+  unfolding pair_write_fields
+  write-fields-refused = let t = fields-told k c told in rw (t.0, t.1, t.2, numbered k c told)

@@ -1,27 +1,28 @@
 -- The answer of a read of two fields, from what its calls have found.
-use Prim.Native.Nat.{ℕ, ◌-◌, ◌^◌, ◌≤◌, ◌<◌}
-use mathlib.Core.Path.{◌≡◌, sym, ap, ◌∙◌}
+use Prim.Native.Nat.{ℕ, ◌^◌, ◌≤◌, ◌<◌}
+use mathlib.Core.Path.{◌≡◌, sym, ◌∙◌}
 use mathlib.Core.Logic.{◌≢◌}
 use mathlib.Core.Bool.{true, false}
 use mathlib.Core.List.{List, [], ◌∷◌}
 use native.Mathlib.Omega.{arith}
-use native.Mathlib.Decide.{ℕ_discrete}
-use lib.ListN.{length, replicate}
+use lib.ListN.{drop, replicate}
 use borrow.Author.Tests.{eq-eqb, ne_eqb}
 use Rattle.code.specs.declared.Shape.{Shape}
 use Rattle.code.specs.declared.Pair.{Pair}
-use Rattle.code.specs.Calls.{refusal, answer, filled, layout_fields, layout_reply, field_read, generation, holds, left, read_refusal, read_reply}
+use Rattle.code.specs.Calls.{answer, filled, layout_fields, layout_reply, field_read, generation, holds, left, read_refusal, read_reply}
 use Rattle.code.specs.Pair.{first_shape, unequal, pair_holds, pair_read_reply}
 use Rattle.code.proofs.LayoutCall.{bounded}
 use Rattle.code.proofs.ReadCall.{read_made}
 use Rattle.code.proofs.PairCall.{read-seen, pair-read-unequal, pair-read-first, pair-read-second, left_is, held_below, not_listed}
 use Rattle.shapes.specs.declared.Outline.{Outline}
 use Rattle.shapes.specs.Outlines.{outlined}
-use Rattle.reading.specs.declared.Refusal.{Refusal}
-use Rattle.reading.specs.declared.Refusal.TheVariants.{Plain, Miscounted, Beyond}
-use Rattle.reading.specs.Answers.{refusal_of}
-use Rattle.reading.proofs.Unique.{refusal-not}
+use Rattle.std.specs.Prelude.{Result, Ok, Err}
+use Rattle.code.specs.declared.Refusal.{Refusal}
+use Rattle.code.specs.Refusals.{refusal_reply, number_of}
+use Rattle.code.proofs.Refused.{reply-split, refused-not}
 use Rattle.reading.proofs.Looking.{reads-refused}
+use Rattle.layout.specs.declared.Ungranted.{Ungranted}
+use Rattle.layout.specs.Plan.{ungranted_as, number_or_0}
 use Rattle.pairing.specs.Answers.{Laid, second_told}
 use Rattle.pairing.proofs.Sights.{laid_so}
 
@@ -35,33 +36,29 @@ is-equal p e = rw (eq-eqb p.v1 p.v2 e)
 
 -- what a reply of a read tells of its refusal
 module _ (s : Shape) (bs : List ℕ) where
-  read-refused : (k : Refusal) → refusal_of k ≡ read_reply s bs → read_refusal s bs ≡ refusal_of k
+  read-refused : (k : Refusal) → refusal_reply k ≡ read_reply s bs → read_refusal s bs ≡ refusal_reply k
   unfolding read_reply answer
   read-refused k e = go (read_refusal s bs) e
     where
-      go : (r : List ℕ) → refusal_of k ≡ answer r (generation (field_read s bs) ∷ holds (field_read s bs) ∷ left s.t (field_read s bs) ∷ []) → r ≡ refusal_of k
-      go [] e = absurd (refusal-not k (sym e))
+      go : (r : List ℕ) → refusal_reply k ≡ answer r (generation (field_read s bs) ∷ holds (field_read s bs) ∷ left s.t (field_read s bs) ∷ []) → r ≡ refusal_reply k
+      go [] e = absurd (refused-not k e)
       go (j ∷ carried) e = sym e
 
   -- a reading that is made was granted its layout
-  read-laid : {k : ℕ} {h : List ℕ} → k ∷ h ≡ filled layout_fields (layout_reply s 256) → {i n l : ℕ} → 0 ∷ i ∷ n ∷ l ∷ [] ≡ read_reply s bs → k ≡ 0
-  read-laid {k} laid e = elim (ℕ_discrete k 0) [
-    | yes z ↦ z
-    | no d ↦ absurd (omega (arith, ap length (e ∙ sym (reads-refused s bs laid d))))
-  ]
+  read-laid : (k : Result Unit Ungranted) {h : List ℕ} → number_or_0 k ∷ h ≡ filled layout_fields (layout_reply s 256) → {i n l : ℕ} →
+      0 ∷ i ∷ n ∷ l ∷ [] ≡ read_reply s bs → 0 ∷ h ≡ filled layout_fields (layout_reply s 256)
+  read-laid (Ok granted) laid e = laid
+  read-laid (Err k) laid e = absurd (refused-not (ungranted_as k) (reads-refused s bs (ungranted_as k) laid ∙ sym e))
 
 module _ (p : Pair) (first second : List ℕ) where
   pub pair-18 : p.v1 ≢ p.v2 → 18 ∷ [] ≡ pair_read_reply p first second
   pair-18 d = sym (pair-read-unequal p first second (is-unequal p d))
 
   module _ (same : p.v1 ≡ p.v2) (f : Outline) (shaped : outlined f (p.v1 ∷ replicate 15 0) ≡ first_shape p) where
-    pub pair-first : (k : Refusal) → refusal_of k ≡ read_reply (outlined f (p.v1 ∷ replicate 15 0)) first → refusal_of k ≡ pair_read_reply p first second
-    pair-first k e = go k (read-refused (first_shape p) first k (rw shaped at e))
-      where
-        go : (k : Refusal) → read_refusal (first_shape p) first ≡ refusal_of k → refusal_of k ≡ pair_read_reply p first second
-        go (Plain n) q = sym (pair-read-first p first second (is-equal p same) n [] q)
-        go (Miscounted i u) q = sym (pair-read-first p first second (is-equal p same) 15 (i ∷ u ∷ []) q)
-        go (Beyond i) q = sym (pair-read-first p first second (is-equal p same) 16 (i ∷ []) q)
+    pub pair-first : (k : Refusal) → refusal_reply k ≡ read_reply (outlined f (p.v1 ∷ replicate 15 0)) first → refusal_reply k ≡ pair_read_reply p first second
+    pair-first k e =
+        let q = read-refused (first_shape p) first k (rw shaped at e) in
+        reply-split k ∙ sym (pair-read-first p first second (is-equal p same) (number_of k) (drop 1 (refusal_reply k)) (q ∙ reply-split k))
 
     module _ {i n l : ℕ} (e : 0 ∷ i ∷ n ∷ l ∷ [] ≡ read_reply (outlined f (p.v1 ∷ replicate 15 0)) first) where
       made : (read_refusal (first_shape p) first ≡ []) × (n ≡ holds (field_read (first_shape p) first)) × (l ≡ left p.t1 (field_read (first_shape p) first))
@@ -71,9 +68,9 @@ module _ (p : Pair) (first second : List ℕ) where
       unfolding pair_read_reply pair_holds
       pair-second q = q ∙ rw (made.1, made.2, pair-read-second p first second (is-equal p same) made.0)
 
-      pub first-laid : {k : ℕ} {h : List ℕ} → k ∷ h ≡ filled layout_fields (layout_reply (outlined f (p.v1 ∷ replicate 15 0)) 256) →
+      pub first-laid : (k : Result Unit Ungranted) {h : List ℕ} → number_or_0 k ∷ h ≡ filled layout_fields (layout_reply (outlined f (p.v1 ∷ replicate 15 0)) 256) →
           Laid p (p.v1 ∷ replicate 15 0) h
-      first-laid laid = laid_so p f same shaped laid (read-laid _ first laid e)
+      first-laid k laid = laid_so p f same shaped (read-laid _ first k laid e)
 
       -- the first field's number and writes left are small
       pub first_small : (n < p.v1) × (p.v1 ≤ 2 ^ 56) × (l ≤ 16)

@@ -3,4 +3,4 @@
 
 pub mod calls;
 pub mod input;
-mod parts;
+mod reader;

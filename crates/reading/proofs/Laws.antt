@@ -1,14 +1,10 @@
 -- What the functions of this crate go by: the generation that a zero count points to.
-use mathlib.Core.Path.{◌≡◌, refl, sym, ◌∙◌}
-use mathlib.Core.List.{List}
-use Prim.Native.Nat.{ℕ, zero, suc, ◌+◌, ◌-◌, ◌≤◌, ◌<◌}
-use native.Mathlib.Omega.{arith}
-use native.Mathlib.Numerals.{add-one}
-use native.Mathlib.Nat.{zero-add, add-zero}
-use lib.ListN.{length, get_or, drop, drop_of_length-le, get_or-eq_default}
-use lib.Seq.{drop-cons, get_or-drop}
+use Rattle.std.proofs.Common.{◌≡◌, ◌≢◌, refl, sym, ap, ◌∙◌, ℕ, zero, suc, ◌+◌, ◌-◌, ◌≤◌, ◌<◌, Bool, true}
+use Rattle.std.proofs.Common.{false, cond, List, [], ◌∷◌, length, get_or, take, drop, length-take, length-drop, Option, unwrap_or, arith, add-one}
+use Rattle.std.proofs.lemmas.List.{drop-take}
+use lib.ListN.{get_or-eq_default}
+use lib.Dec.{leb}
 use borrow.Author.Tests.{le-leb, lt-leb}
-use mathlib.Core.Logic.{◌≢◌}
 use Rattle.code.specs.declared.Shape.{Shape}
 use Rattle.code.specs.Shape.{counts_of}
 use Rattle.code.specs.declared.Dealing.TheVariants.{Patterns, Digits}
@@ -16,30 +12,44 @@ use Rattle.code.specs.Code.{dealt, deals}
 use Rattle.code.specs.Field.{past}
 use Rattle.layout.specs.Plan.{Granted}
 
--- n generations are passed, and what is left of the list says how many more
-pub record Passing (hs : List ℕ) (z n : ℕ) : Type 0 where
-  pub below : n < length hs
-  pub total : past hs z ≡ n + past (drop n hs) z
+-- how many counts stand before the first that is at most z
+abbrev pub above : ℕ → List ℕ → ℕ
+above z [] = 0
+above z (x ∷ xs) = cond (leb x z) 0 (above z xs + 1)
 
-pub passing-none : (hs : List ℕ) (z : ℕ) → 0 < length hs → Passing hs z 0
-passing-none hs z l = record { below = l; total = sym (zero-add (past hs z)) }
+pub above-hit : (z x : ℕ) (xs : List ℕ) → x ≤ z → above z (x ∷ xs) ≡ 0
+above-hit z x xs l = rw (le-leb x z l)
 
-module _ {hs : List ℕ} {z n : ℕ} (P : Passing hs z n) where
-  here : suc n < length hs → get_or (drop (suc n) hs) 0 0 ≡ get_or hs (suc n) 0
-  here l = get_or-drop (suc n) hs 0 0 ∙ rw (add-zero (suc n))
+pub above-miss : (z x : ℕ) (xs : List ℕ) → z < x → above z (x ∷ xs) ≡ above z xs + 1
+above-miss z x xs l = rw (lt-leb x z l)
 
-  pub passing-here : suc n < length hs → get_or hs (suc n) 0 ≤ z → past hs z ≡ n
-  unfolding past
-  passing-here l g = P.total ∙ rw (drop-cons hs n 0 P.below, here l, le-leb (get_or hs (suc n) 0) z g) (add-zero n)
+pub above-most : (z : ℕ) (xs : List ℕ) → above z xs ≤ length xs
+above-most z [] = omega arith
+above-most z (x ∷ xs) = go (leb x z) (above-most z xs)
+  where
+    go : (b : Bool) → above z xs ≤ length xs → cond b 0 (above z xs + 1) ≤ suc (length xs)
+    go true l = omega arith
+    go false l = omega arith
 
-  pub passing-more : suc n < length hs → z < get_or hs (suc n) 0 → Passing hs z (n + 1)
-  unfolding past
-  passing-more l g = record
-      { below = omega arith; total = P.total ∙ rw (add-one n, drop-cons hs n 0 P.below, here l, lt-leb (get_or hs (suc n) 0) z g) (omega arith) }
+past-tail : (hs : List ℕ) (z : ℕ) → past hs z ≡ above z (drop 1 hs)
+unfolding past
+past-tail [] z = refl
+past-tail (h ∷ []) z = rw (le-leb 0 z (omega arith))
+past-tail (h ∷ x ∷ xs) z = rw (add-one (above z xs), past-tail (x ∷ xs) z)
 
-  pub passing-last : length hs ≤ suc n → past hs z ≡ n
-  unfolding past
-  passing-last l = P.total ∙ rw (drop-cons hs n 0 P.below, drop_of_length-le hs l, le-leb 0 z (omega arith)) (add-zero n)
+past-above : (t : ℕ) (h : List ℕ) (z : ℕ) → 0 < t → past (take t h) z ≡ above z (take (t - 1) (drop 1 h))
+past-above t h z l =
+    let e : 1 + (t - 1) ≡ t = omega arith in
+    past-tail (take t h) z ∙ ap (above z) (rw e at (drop-take 1 (t - 1) h))
+
+-- the generation that z zero groups point to is found among the counts behind the first
+pub past-found : (t : ℕ) (h : List ℕ) (z : ℕ) (r : Option ℕ) → 0 < t → t ≤ length h →
+    above z (take (t - 1) (drop 1 h)) ≡ unwrap_or r (length (take (t - 1) (drop 1 h))) → (unwrap_or r (t - 1) ≡ past (take t h) z) × (unwrap_or r (t - 1) < t)
+past-found t h z r some few found =
+    let xs = take (t - 1) (drop 1 h) in
+    let n : length xs ≡ t - 1 = omega (arith, length-take (t - 1) (drop 1 h), length-drop 1 h) in
+    let same : above z xs ≡ unwrap_or r (t - 1) = rw n at found in
+    (sym same ∙ sym (past-above t h z some), omega (arith, same, above-most z xs))
 
 -- past the sixteenth place there is no count
 pub none-behind : {s : Shape} {h : List ℕ} → Granted s h → get_or h 16 0 ≡ 0

@@ -2,4 +2,3 @@ pub mod Laws
 pub mod Looking
 pub mod Unique
 pub mod Demand
-pub mod Refusals

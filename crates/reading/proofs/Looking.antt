@@ -9,10 +9,11 @@ use native.Mathlib.Numerals.{add-one}
 use lib.Dec.{eqb}
 use lib.ListN.{length, get_or, take, replicate}
 use lib.Seq.{take_at}
-use lib.Arith.{lt_of_le-ne}
 use lib.Pow.{pow_mono}
 use borrow.Author.Tests.{not-true}
 use Rattle.code.specs.declared.Shape.{Shape}
+use Rattle.code.specs.declared.Refusal.{Refusal}
+use Rattle.code.specs.Refusals.{refusal_reply, number_of}
 use Rattle.code.specs.Shape.{first_of, ranges_of, order_of, counts_of, width_of, code_of}
 use Rattle.code.specs.Count.{fewer}
 use Rattle.code.specs.Deal.{written, number, plain}
@@ -40,7 +41,7 @@ use Rattle.words.specs.declared.Seen.{Seen}
 use Rattle.words.proofs.Joined.{seen-pickable, front-pickable}
 use Rattle.cells.specs.Cells.{Loadable, Loaded}
 use Rattle.layout.specs.Plan.{Granted}
-use Rattle.layout.proofs.Planning.{plan-refused}
+use Rattle.layout.proofs.Planning.{laid-number, laid-alone}
 use Rattle.reading.specs.Answers.{answer_of, read_at_in, read_in, SoundCells, field_groups, Holds, Looked, Close, Ranged, Tellable}
 
 -- The number that places tell, from their labels and values, and from their digits.
@@ -219,9 +220,6 @@ module _ {s : Shape} {h : List ℕ} (G : Granted s h) {n : ℕ} {words : List �
 
 -- Cells loaded into words, and the reply to what they read as.
 module _ {s : Shape} {h : List ℕ} (G : Granted s h) (bs : List ℕ) where
-  pub past-asks : (0 < s.t) × (s.t ≤ 16) × (length (take s.t h) ≡ s.t)
-  past-asks = (omega (arith, G.bounds.t-low), G.bounds.t-high, rw G.list G.many)
-
   pub sound-width : (o : ℕ) → o ≡ order_of s → sound o s.m (get_or h 0 0) bs ≡ sound (order_of s) s.m (width_of s) bs
   unfolding width_of
   sound-width o q = rw (q, G.each 0)
@@ -276,6 +274,6 @@ module _ {s : Shape} {h : List ℕ} (G : Granted s h) (bs : List ℕ) where
         go (Field.miscounted i u) e = sym (read-miscounted s bs G.ok f i u e)
         go (Field.beyond i) e = sym (read-beyond s bs G.ok f i e)
 
--- a layout that is refused refuses the reading with its number
-pub reads-refused : (s : Shape) (bs : List ℕ) {k : ℕ} {h : List ℕ} → k ∷ h ≡ filled layout_fields (layout_reply s 256) → k ≢ 0 → k ∷ [] ≡ read_reply s bs
-reads-refused s bs {k} right d = sym (read-no-layout s bs k (plan-refused s right (lt_of_le-ne (omega arith) (λ z. d (sym z)))))
+-- a layout that is refused refuses the reading
+pub reads-refused : (s : Shape) (bs : List ℕ) (k : Refusal) {h : List ℕ} → number_of k ∷ h ≡ filled layout_fields (layout_reply s 256) → refusal_reply k ≡ read_reply s bs
+reads-refused s bs k right = laid-alone s 256 k right ∙ sym (read-no-layout s bs (number_of k) (laid-number s 256 k right))

@@ -1,5 +1,5 @@
 -- Document 01, "Reading", and document 02, §2 and §6 (RULES 5): the answers of read as replies, and what the functions between them cite.
-use Rattle.std.specs.Prelude.{ℕ, suc, ◌+◌, ◌*◌, ◌-◌, ◌^◌, ◌<◌, ◌≤◌, ◌≡◌, true, cond, List, [], ◌∷◌, ◌++◌, eqb, length, take, replicate}
+use Rattle.std.specs.Prelude.{ℕ, suc, ◌+◌, ◌*◌, ◌-◌, ◌^◌, ◌<◌, ◌≤◌, ◌≡◌, true, cond, List, [], ◌∷◌, ◌++◌, eqb, length, take, replicate, Option, Some, None, Result, Ok, Err}
 use Rattle.code.specs.declared.Shape.{Shape}
 use Rattle.code.specs.declared.Generation.{Generation}
 use Rattle.code.proofs.Chosen.{pattern_most}
@@ -9,38 +9,33 @@ use Rattle.code.specs.Cells.{opened, sound}
 use Rattle.code.specs.Field as Field
 use Rattle.words.specs.Words.{word_groups, Tidy, front_groups}
 use Rattle.words.specs.Marks.{Ends}
+use Rattle.code.specs.declared.Refusal.{Refusal}
+use Rattle.code.specs.declared.Refusal.TheVariants.{Miscounted as MiscountedRefusal, Beyond as BeyondRefusal}
+use Rattle.code.specs.Refusals.{reply_of}
 use Rattle.reading.specs.declared.Reading.{Reading}
-use Rattle.reading.specs.declared.Reading.TheVariants.{Read, Refused}
-use Rattle.reading.specs.declared.Refusal.{Refusal}
-use Rattle.reading.specs.declared.Refusal.TheVariants.{Plain, Miscounted as MiscountedRefusal, Beyond as BeyondRefusal}
-use Rattle.reading.specs.declared.RefusalFields.{RefusalFields}
 use Rattle.reading.specs.declared.ReadFields.{ReadFields}
-use Rattle.reading.specs.declared.Found.{Found}
-use Rattle.reading.specs.declared.Found.TheVariants.{Blank, Number, Miscounted, Beyond}
-
--- RULES 12, 13: a refusal as its number and what it carries
-abbrev pub refusal_of : Refusal → List ℕ
-refusal_of (Plain k) = k ∷ []
-refusal_of (MiscountedRefusal generation unerased) = 15 ∷ generation ∷ unerased ∷ []
-refusal_of (BeyondRefusal generation) = 16 ∷ generation ∷ []
-
-abbrev pub refusal_fields_of : RefusalFields → List ℕ
-refusal_fields_of c = c.number ∷ c.generation ∷ c.unerased ∷ []
+use Rattle.reading.specs.declared.Numbered.{Numbered}
+use Rattle.reading.specs.declared.Unreadable.{Unreadable}
+use Rattle.reading.specs.declared.Unreadable.TheVariants.{Miscounted, Beyond}
 
 abbrev pub read_fields_of : ReadFields → List ℕ
 read_fields_of r = r.refusal ∷ r.generation ∷ r.number ∷ r.left ∷ r.unerased ∷ []
 
--- 01, Where each language form belongs; RULES 13: an enum answer as numbers: 0 and the values, or the refusal
-abbrev pub reading_of : Reading → List ℕ
-reading_of (Read generation number left) = 0 ∷ generation ∷ number ∷ left ∷ []
-reading_of (Refused k) = refusal_of k
+-- 01, Where each language form belongs; RULES 13: a reading as a reply: 0 and the values, or the refusal
+abbrev pub reading_of : Result Reading Refusal → List ℕ
+reading_of r = reply_of (λ a. a.generation ∷ a.number ∷ a.left ∷ []) r
+
+-- 02, §6; RULES 12: the refusal of cells that have no number
+abbrev pub refusal_for : Unreadable → Refusal
+refusal_for (Miscounted i u) = MiscountedRefusal i u
+refusal_for (Beyond i) = BeyondRefusal i
 
 -- what sound cells read as
-abbrev pub found_of : Found → Field.Reading
-found_of Blank = Field.blank
-found_of (Number i x) = Field.reads i x
-found_of (Miscounted i u) = Field.miscounted i u
-found_of (Beyond i) = Field.beyond i
+abbrev pub found_of : Result (Option Numbered) Unreadable → Field.Reading
+found_of (Ok None) = Field.blank
+found_of (Ok (Some a)) = Field.reads a.generation a.number
+found_of (Err (Miscounted i u)) = Field.miscounted i u
+found_of (Err (Beyond i)) = Field.beyond i
 
 -- what is answered for a reading, by the form and t
 abbrev pub answer_of : ℕ → ℕ → Field.Reading → List ℕ

@@ -3,44 +3,26 @@
 
 pub mod telling;
 
-ghost use Rattle.std.specs.Prelude.{◌≡◌, ◌≢◌, true, false, ◌-◌, ◌<◌, length, get_or};
+ghost use Rattle.std.specs.Prelude.{◌≡◌, ◌≢◌, true, false, ◌<◌, length, get_or};
 ghost use Rattle.code.specs.Shape.{width_of};
 ghost use Rattle.shapes.specs.Outlines.{outlined};
 ghost use Rattle.code.specs.Field as Field;
-ghost use Rattle.code.specs.Calls.{filled, read_fields, read_reply};
+ghost use Rattle.code.specs.Calls.{read_fields, read_reply};
 ghost use Rattle.words.specs.Marks.{Ends, Fronted, Viewed};
 ghost use Rattle.layout.specs.Plan.{Planned, Granted};
-ghost use Rattle.reading.specs.Answers.{refusal_of, refusal_fields_of, read_fields_of, reading_of, found_of, answer_of, read_in, SoundCells, field_groups, Holds, Looked, Ranged};
+ghost use Rattle.reading.specs.Answers.{read_fields_of, reading_of, refusal_for, found_of, answer_of, read_in, SoundCells, field_groups, Holds, Looked, Ranged};
 
-use code::{Shape, refusals};
+use code::{Refusal, Shape};
 use layout::Plan;
 use shapes::Outline;
 use words::Seen;
 
-// A refusal: its number alone, or 15 and 16 with what they carry.
+// The generation of a field, its number, and how many writes it has left.
 #[derive(Clone, Copy)]
-pub enum Refusal {
-    Plain(u64),
-    Miscounted { generation: u64, unerased: u64 },
-    Beyond { generation: u64 },
-}
-
-#[derive(Clone, Copy)]
-pub enum Reading {
-    Read {
-        generation: u64,
-        number: u64,
-        left: u64,
-    },
-    Refused(Refusal),
-}
-
-// The number of a refusal and what it carries, 0 for what it lacks.
-#[derive(Clone, Copy)]
-pub struct RefusalFields {
-    pub number: u64,
+pub struct Reading {
     pub generation: u64,
-    pub unerased: u64,
+    pub number: u64,
+    pub left: u64,
 }
 
 // A reading or its refusal in numbers, 0 for those that it lacks.
@@ -54,14 +36,39 @@ pub struct ReadFields {
     pub unerased: u64,
 }
 
-// What sound cells read as, and the reason where they have no number: the unerased groups are not as many as the generation has, or the number is beyond the range.
+// What cells hold that are not blank.
 #[derive(Clone, Copy)]
-pub enum Found {
-    Blank,
-    Number { generation: u64, number: u64 },
+pub struct Numbered {
+    pub generation: u64,
+    pub number: u64,
+}
+
+// Why sound cells have no number: the unerased groups are not as many as the generation has, or the number is beyond the range.
+#[derive(Clone, Copy)]
+pub enum Unreadable {
     Miscounted { generation: u64, unerased: u64 },
     Beyond { generation: u64 },
 }
+
+impl From<Unreadable> for Refusal {
+    ghost from_gives = { λ e k. k ≡ refusal_for e };
+
+    fn from(e: Unreadable) -> Refusal {
+        match e {
+            Unreadable::Miscounted {
+                generation,
+                unerased,
+            } => Refusal::Miscounted {
+                generation,
+                unerased,
+            },
+            Unreadable::Beyond { generation } => Refusal::Beyond { generation },
+        }
+    }
+}
+
+// What sound cells read as, None where they are blank.
+pub type Found = Result<Option<Numbered>, Unreadable>;
 
 // The reading of the number x at place i, where it is in range.
 fn ranged(i: usize, v: u64, x: u64) -> Found
@@ -70,12 +77,12 @@ fn ranged(i: usize, v: u64, x: u64) -> Found
 {
     let generation = i as u64 + 1;
     if v <= x {
-        return Found::Beyond { generation };
+        return Err(Unreadable::Beyond { generation });
     }
-    Found::Number {
+    Ok(Some(Numbered {
         generation,
         number: x,
-    }
+    }))
 }
 
 // Behind the first generation there are other unerased groups than place i has.
@@ -83,10 +90,7 @@ fn is_miscounted(h: &[u64; 16], i: usize, unerased: u64) -> bool
     requires { i < 16 }
     ensures { (result ≡ true → (i ≢ 0) × (unerased ≢ get_or h.now i 0)) × (result ≡ false → i ≢ 0 → unerased ≡ get_or h.now i 0) }
 {
-    if i == 0 {
-        return false;
-    }
-    unerased != h[i]
+    i != 0 && unerased != h[i]
 }
 
 // Marks the places of generation 1, which are all groups of the field; those of the others are marked already.
@@ -116,14 +120,14 @@ fn read_groups(
     ensures marks_len { length marks.new ≡ 16 }
 {
     if seen.zeros == h[0] {
-        return Found::Blank;
+        return Ok(None);
     }
     let i = telling::past(h, f.t as usize, seen.zeros);
     if is_miscounted(h, i, seen.unerased) {
-        return Found::Miscounted {
+        return Err(Unreadable::Miscounted {
             generation: i as u64 + 1,
             unerased: seen.unerased,
-        };
+        });
     }
     mark_places(h, f.m, n, i, marks);
     let g = telling::generation_at(h, f, v, i);
@@ -131,46 +135,31 @@ fn read_groups(
     ranged(i, g.range, x)
 }
 
-// The writes left of t after generation i.
-fn writes_left(t: u64, i: u64) -> u64
-    ensures { result ≡ t - i }
-{
-    if t < i { 0 } else { t - i }
-}
-
 // Cells that were never written: in form 0 they have generation 1, number 0 and all their writes left, and else no number.
-fn answer_blank(f: Outline) -> Reading
+fn answer_blank(f: Outline) -> Result<Reading, Refusal>
     ensures { reading_of result ≡ answer_of f.form f.t Field.blank }
 {
     if f.form != 0 {
-        return Reading::Refused(Refusal::Plain(refusals::BLANK));
+        return Err(Refusal::Blank);
     }
-    Reading::Read {
+    Ok(Reading {
         generation: 1,
         number: 0,
         left: f.t,
-    }
+    })
 }
 
 // A reading as it is answered.
-fn answer(found: Found, f: Outline) -> Reading
+fn answer(found: Found, f: Outline) -> Result<Reading, Refusal>
     ensures { reading_of result ≡ answer_of f.form f.t (found_of found) }
 {
-    match found {
-        Found::Blank => answer_blank(f),
-        Found::Number { generation, number } => Reading::Read {
+    match found? {
+        None => answer_blank(f),
+        Some(Numbered { generation, number }) => Ok(Reading {
             generation,
             number,
-            left: writes_left(f.t, generation),
-        },
-        Found::Miscounted {
-            generation,
-            unerased,
-        } => Reading::Refused(Refusal::Miscounted {
-            generation,
-            unerased,
+            left: f.t.saturating_sub(generation),
         }),
-        Found::Beyond { generation } => Reading::Refused(Refusal::Beyond { generation }),
     }
 }
 
@@ -207,12 +196,12 @@ pub fn look_at(
 }
 
 // The reading of a field whose layout is granted.
-fn read_granted(h: &[u64; 16], f: Outline, v: &[u64; 16], cells: &[u8]) -> Reading
+fn read_granted(h: &[u64; 16], f: Outline, v: &[u64; 16], cells: &[u8]) -> Result<Reading, Refusal>
     requires { Granted (outlined f v.now) h.now }
     ensures { reading_of result ≡ read_reply (outlined f v.now) cells.now }
 {
     if !cells::is_sound(cells, shapes::order(f), f.m as usize, h[0] as usize) {
-        return Reading::Refused(Refusal::Plain(refusals::CELLS));
+        return Err(Refusal::Cells);
     }
     let mut words = [0u64; 16];
     let mut marks = [0u64; 16];
@@ -222,81 +211,53 @@ fn read_granted(h: &[u64; 16], f: Outline, v: &[u64; 16], cells: &[u8]) -> Readi
 }
 
 // The reading of a field whose layout is worked out, with its counts in h and its ranges in v.
-pub fn read_by(plan: Plan, h: &[u64; 16], v: &[u64; 16], cells: &[u8]) -> Reading
+pub fn read_by(plan: Plan, h: &[u64; 16], v: &[u64; 16], cells: &[u8]) -> Result<Reading, Refusal>
     requires { Planned plan v.now h.now }
     ensures { reading_of result ≡ read_reply (outlined plan.outline v.now) cells.now }
 {
-    if plan.refusal != 0 {
-        return Reading::Refused(Refusal::Plain(plan.refusal));
-    }
+    plan.laid?;
     read_granted(h, plan.outline, v, cells)
 }
 
-pub fn read(s: Shape, cells: &[u8]) -> Reading
+pub fn read(s: Shape, cells: &[u8]) -> Result<Reading, Refusal>
     ensures { reading_of result ≡ read_reply s cells.now }
 {
     let f = shapes::outline_of(s);
     // Before the counts are cleared, so that a refusal costs little.
     if shapes::outline_outside(f) {
-        return Reading::Refused(Refusal::Plain(refusals::BOUNDS));
+        return Err(Refusal::Bounds);
     }
     let mut h = [0u64; 16];
     let v = s.v;
-    let refusal = layout::lay_outlined(&mut h, f, &v, 256);
-    if refusal != 0 {
-        return Reading::Refused(Refusal::Plain(refusal));
-    }
+    layout::lay_outlined(&mut h, f, &v, 256)?;
     read_granted(&h, f, &v, cells)
 }
 
-pub fn flat_refusal(refusal: Refusal) -> RefusalFields
-    ensures { refusal_fields_of result ≡ filled 3 (refusal_of refusal) }
-{
-    match refusal {
-        Refusal::Plain(number) => RefusalFields {
-            number,
-            generation: 0,
-            unerased: 0,
-        },
-        Refusal::Miscounted {
-            generation,
-            unerased,
-        } => RefusalFields {
-            number: refusals::MISCOUNTED,
-            generation,
-            unerased,
-        },
-        Refusal::Beyond { generation } => RefusalFields {
-            number: refusals::BEYOND,
-            generation,
-            unerased: 0,
-        },
-    }
-}
-
-pub fn flat(reading: Reading) -> ReadFields
+pub fn flat(reading: Result<Reading, Refusal>) -> ReadFields
     ensures { read_fields_of result ≡ read_fields (reading_of reading) }
 {
     match reading {
-        Reading::Read {
-            generation,
-            number,
-            left,
-        } => ReadFields {
+        Ok(
+            Reading {
+                generation,
+                number,
+                left,
+            },
+        ) => ReadFields {
             refusal: 0,
             generation,
             number,
             left,
             unerased: 0,
         },
-        Reading::Refused(refusal) => {
-            let c = flat_refusal(refusal);
+        Err(refusal) => {
+            let told = refusal.fields();
             ReadFields {
-                refusal: c.number,
-                generation: c.generation,
+                refusal: told.number,
+                generation: told.first,
                 number: 0,
                 left: 0,
-                unerased: c.unerased,
+                unerased: told.second,
             }
         }
     }

@@ -20,14 +20,10 @@ pub fn past(h: &[u64; 16], t: usize, z: u64) -> usize
     requires { (0 < t) × (t ≤ 16) × (length (take t h.now) ≡ t) }
     ensures { (result ≡ Field.past (take t h.now) z) × (result < t) }
 {
-    let mut n: usize = 1;
-    while n < t {
-        if h[n] <= z {
-            return n - 1;
-        }
-        n += 1;
-    }
-    n - 1
+    h[1..t]
+        .iter()
+        .position(|&count| count <= z)
+        .unwrap_or(t - 1)
 }
 
 // The count of the generation after place i, 0 after the last.
@@ -35,10 +31,7 @@ pub fn next_count(h: &[u64; 16], i: usize) -> u64
     requires { (get_or h.now 16 0 ≡ 0) × (i < 16) }
     ensures { result ≡ get_or h.now (suc i) 0 }
 {
-    if i == 15 {
-        return 0;
-    }
-    h[i + 1]
+    h.get(i + 1).copied().unwrap_or(0)
 }
 
 // What holds of generation 1, or of those behind it.
@@ -109,12 +102,6 @@ fn tell_digits(words: &[u64; 16], marks: &[u64; 16], n: usize, m: usize, e: u64)
     dealing::plain(&values, k, e)
 }
 
-fn less_one(x: u64) -> u64
-    ensures { result ≡ x - 1 }
-{
-    if x == 0 { 0 } else { x - 1 }
-}
-
 // The number that the places of a generation tell, which are the marked groups.
 pub fn tell(words: &[u64; 16], marks: &[u64; 16], n: usize, m: usize, g: Generation) -> u64
     requires { let xs = front_at m n marks.now words.now in
@@ -127,6 +114,6 @@ pub fn tell(words: &[u64; 16], marks: &[u64; 16], n: usize, m: usize, g: Generat
         Dealing::Patterns { values, fewest } => {
             tell_pattern(words, marks, n, m, places, values, fewest)
         }
-        Dealing::Digits { base } => less_one(tell_digits(words, marks, n, m, base)),
+        Dealing::Digits { base } => tell_digits(words, marks, n, m, base).saturating_sub(1),
     }
 }

@@ -5,10 +5,8 @@ use mathlib.Core.List.{List, [], ◌∷◌, ◌++◌}
 use Prim.Native.Nat.{ℕ, zero, suc, ◌-◌, ◌≤◌, ◌<◌}
 use native.Mathlib.Omega.{arith}
 use native.Mathlib.Nat.{sub-zero, suc-sub-suc}
-use lib.ListN.{length, get_or, take, drop, replicate, length-take, length-append, length-drop, take-append-drop}
-use lib.Seq.{take_at, drop_at}
+use lib.ListN.{length, get_or, take, drop, replicate, length-take, take-append-drop}
 use borrow.Author.Tests.{le-leb, lt-leb, eq-eqb, ne_eqb}
-use Rattle.shapes.specs.declared.Outline.{Outline}
 use Rattle.code.specs.Shape.{shaped, ranges_due}
 use Rattle.shapes.specs.Outlines.{outlined}
 use Rattle.code.specs.Calls.{filled}
@@ -19,53 +17,29 @@ use Rattle.code.proofs.Tests.{and-false}
 use Rattle.code.proofs.LayoutCall.{padded}
 use Rattle.code.proofs.LayoutLists.{layout-cut, layout-uncounted, layout-behind}
 use Rattle.numerals.specs.Number.{numbers_of}
-use Rattle.numerals.specs.declared.Numbers.{Numbers}
-use Rattle.numerals.specs.declared.Numbers.TheVariants.{Read, Cut}
+use Rattle.std.proofs.Common.{Option, None, Some}
 use Rattle.records.specs.declared.list.LayoutThere.{LayoutThere}
-use Rattle.records.specs.declared.list.LayoutThere.TheVariants.{Whole, Broken}
 use Rattle.records.specs.Source.{listed_from, layout_at}
 use Rattle.records.specs.List.{RangesSaid, RangesRead, there_of, Ranged, LayoutRead}
 
 module _ (xs : List ℕ) where
-  pub said-one : (get_or xs 0 0 ≡ 2 → ⊥) → RangesSaid xs 1
+  pub said-one : (get_or xs 0 0 ≡ 2 → ⊥) → RangesSaid xs (Some 1)
   unfolding uncounted ranges_due
-  said-one n = record { none = λ z. absurd (omega arith); some = λ p. (rw (ne_eqb (get_or xs 0 0) 2 n), rw (ne_eqb (get_or xs 0 0) 2 n)); most = omega arith }
+  said-one n = (rw (ne_eqb (get_or xs 0 0) 2 n), rw (ne_eqb (get_or xs 0 0) 2 n), omega arith)
 
   module _ (two : get_or xs 0 0 ≡ 2) where
-    pub said-low : get_or xs 2 0 < 2 → RangesSaid xs 0
+    pub said-low : get_or xs 2 0 < 2 → RangesSaid xs None
     unfolding uncounted
-    said-low h = record {
-      none = λ z. rw (eq-eqb (get_or xs 0 0) 2 two, lt-leb 2 (get_or xs 2 0) h);
-      some = λ p. absurd (omega arith);
-      most = omega arith;
-    }
+    said-low h = rw (eq-eqb (get_or xs 0 0) 2 two, lt-leb 2 (get_or xs 2 0) h)
 
-    pub said-high : 16 < get_or xs 2 0 → RangesSaid xs 0
+    pub said-high : 16 < get_or xs 2 0 → RangesSaid xs None
     unfolding uncounted
-    said-high h = record {
-      none = λ z. rw (eq-eqb (get_or xs 0 0) 2 two, lt-leb (get_or xs 2 0) 16 h, and-false);
-      some = λ p. absurd (omega arith);
-      most = omega arith;
-    }
+    said-high h = rw (eq-eqb (get_or xs 0 0) 2 two, lt-leb (get_or xs 2 0) 16 h, and-false)
 
-    pub said-listed : 2 ≤ get_or xs 2 0 → get_or xs 2 0 ≤ 16 → RangesSaid xs (get_or xs 2 0)
+    pub said-listed : 2 ≤ get_or xs 2 0 → get_or xs 2 0 ≤ 16 → RangesSaid xs (Some (get_or xs 2 0))
     unfolding uncounted ranges_due
-    said-listed l h = record {
-      none = λ z. absurd (omega arith);
-      some = λ p. (rw (eq-eqb (get_or xs 0 0) 2 two, le-leb 2 (get_or xs 2 0) l, le-leb (get_or xs 2 0) 16 h), rw (eq-eqb (get_or xs 0 0) 2 two));
-      most = h;
-    }
-
--- so many ranges in front of what stood behind them
-pub ranges-read : (bytes : List ℕ) (at count : ℕ) (before part : List ℕ) {r : Numbers} → length part ≡ count → count ≤ length before →
-    numbers_of part r ≡ read_numbers (length (take (count - 0) before)) bytes at → RangesRead bytes at count before (part ++ drop (count - 0) before) r
-ranges-read bytes at count before part {r} l h e =
-    let due : length (take (count - 0) before) ≡ count = omega (arith, length-take (count - 0) before) in
-    rw (sub-zero count) record {
-      reads = ap (λ xs. numbers_of xs r) (take_at part (drop count before) count l) ∙ e ∙ rw due;
-      kept = drop_at part (drop count before) count l;
-      long = omega (arith, length-append part (drop count before), length-drop count before);
-    }
+    said-listed l h =
+        (rw (eq-eqb (get_or xs 0 0) 2 two, le-leb 2 (get_or xs 2 0) l, le-leb (get_or xs 2 0) 16 h), rw (eq-eqb (get_or xs 0 0) 2 two), h)
 
 three-are : (xs : List ℕ) → length xs ≡ 3 → get_or xs 0 0 ∷ get_or xs 1 0 ∷ get_or xs 2 0 ∷ [] ≡ xs
 three-are [] e = absurd (omega arith)
@@ -75,31 +49,31 @@ three-are (a ∷ b ∷ c ∷ []) e = refl
 three-are (a ∷ b ∷ c ∷ d ∷ xs) e = absurd (omega arith)
 
 -- A layout at a place, as it is read: form, m and t, then its ranges.
-module _ (bytes : List ℕ) (at : ℕ) (before xs : List ℕ) (long : length before ≡ 16) {r : Numbers} (read : numbers_of xs r ≡ read_numbers 3 bytes at) where
-  pub there-cut : r ≡ Cut → LayoutRead bytes at before before Broken
+module _ (bytes : List ℕ) (at : ℕ) (before xs : List ℕ) (long : length before ≡ 16) {r : Option ℕ} (read : numbers_of xs r ≡ read_numbers 3 bytes at) where
+  pub there-cut : r ≡ None → LayoutRead bytes at before before None
   there-cut e = record { reads = sym (layout-cut bytes at (sym (ap (numbers_of xs) (sym e) ∙ read))); ranged = tt; long = long }
 
-  module _ {mid : ℕ} (e : r ≡ Read mid) where
+  module _ {mid : ℕ} (e : r ≡ Some mid) where
     told : read_numbers 3 bytes at ≡ Numerals.numbers xs mid
     told = sym (ap (numbers_of xs) (sym e) ∙ read)
 
-    pub there-uncounted : uncounted xs ≡ true → LayoutRead bytes at before before Broken
+    pub there-uncounted : uncounted xs ≡ true → LayoutRead bytes at before before None
     there-uncounted c = record { reads = sym (layout-uncounted bytes at xs mid told c); ranged = tt; long = long }
 
-    module _ (n : ℕ) (said : RangesSaid xs n) (some : 0 < n) (v : List ℕ) {q : Numbers} (ranges : RangesRead bytes mid n before v q) where
+    module _ (n : ℕ) (said : RangesSaid xs (Some n)) (v : List ℕ) {q : Option ℕ} (ranges : RangesRead bytes mid n before v q) where
       behind : read_layout bytes at ≡ followed xs (numbers_of (take n v) q)
-      behind = layout-behind bytes at xs mid told (said.some some).0 ∙ rw ((said.some some).1, ← ranges.reads)
+      behind = layout-behind bytes at xs mid told said.0 ∙ rw (said.1, ← ranges.reads)
 
-      pub ranges-cut : q ≡ Cut → LayoutRead bytes at before v Broken
+      pub ranges-cut : q ≡ None → LayoutRead bytes at before v None
       unfolding followed
       ranges-cut f = record { reads = sym (behind ∙ rw f); ranged = tt; long = ranges.long ∙ long }
 
-      pub there-whole : {end : ℕ} → q ≡ Read end → length xs ≡ 3 →
-          LayoutRead bytes at before v (Whole (record { form = get_or xs 0 0; m = get_or xs 1 0; t = get_or xs 2 0; count = n }) end)
+      pub there-whole : {end : ℕ} → q ≡ Some end → length xs ≡ 3 →
+          LayoutRead bytes at before v (Some (record { outline = record { form = get_or xs 0 0; m = get_or xs 1 0; t = get_or xs 2 0; count = n }; end = end }))
       unfolding followed
       there-whole {end} f three = record {
         reads = ap (λ ys. Numerals.numbers (ys ++ take n v) end) (three-are xs three) ∙ sym (behind ∙ rw f);
-        ranged = (said.most, ranges.kept);
+        ranged = (said.2, ranges.kept);
         long = ranges.long ∙ long;
       }
 
@@ -117,16 +91,17 @@ filled_of n v l h e =
 
 -- The shape of a layout that was read into zeros.
 module _ (bytes : List ℕ) (place : ℕ) (v : List ℕ) where
-  pub shape-whole : (f : Outline) (end : ℕ) {r : LayoutThere} → r ≡ Whole f end → LayoutRead bytes place (replicate 16 0) v r →
-      outlined f v ≡ listed_shape (layout_at bytes place)
+  pub shape-whole : (l : LayoutThere) {r : Option LayoutThere} → r ≡ Some l → LayoutRead bytes place (replicate 16 0) v r →
+      outlined l.outline v ≡ listed_shape (layout_at bytes place)
   unfolding listed_shape listed_by layout_at
-  shape-whole f end {r} e read =
+  shape-whole l {r} e read =
+      let f = l.outline in
       let told = ap (there_of v) (sym e) ∙ read.reads in
-      let ranged : Ranged (replicate 16 0) v (Whole f end) = subst (Ranged (replicate 16 0) v) e read.ranged in
+      let ranged : Ranged (replicate 16 0) v (Some l) = subst (Ranged (replicate 16 0) v) e read.ranged in
       let some : length (take f.count v) ≡ f.count = omega (arith, length-take f.count v, ranged.0, read.long) in
       let all : filled 16 (take f.count v) ≡ v = filled_of f.count v read.long ranged.0 ranged.1 in
       sym (λ i. record { form = f.form; m = f.m; t = f.t; count = some i; v = all i }) ∙ ap (λ ns. listed_shape (listed_from ns)) told
 
-  pub shape-broken : {r : LayoutThere} → r ≡ Broken → LayoutRead bytes place (replicate 16 0) v r → shaped 0 0 0 ≡ listed_shape (layout_at bytes place)
+  pub shape-broken : {r : Option LayoutThere} → r ≡ None → LayoutRead bytes place (replicate 16 0) v r → shaped 0 0 0 ≡ listed_shape (layout_at bytes place)
   unfolding listed_shape layout_at filled
   shape-broken e read = ap (λ ns. listed_shape (listed_from ns)) (ap (there_of v) (sym e) ∙ read.reads)

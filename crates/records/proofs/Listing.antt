@@ -11,13 +11,10 @@ use borrow.Author.Tests.{lt-ltb, le-ltb}
 use Rattle.code.specs.Numerals as Numerals
 use Rattle.code.specs.Numerals.{read_numbers}
 use Rattle.code.specs.LayoutList.{Listed, listed_by, Layouts, broken_list, layouts, led_layouts, read_layout, read_layouts, counted_layouts, layout_list}
-use Rattle.shapes.specs.declared.Outline.{Outline}
 use Rattle.code.proofs.LayoutLists.{layouts-one, layouts-cut, layout-further}
 use Rattle.numerals.specs.Number.{numbers_of}
-use Rattle.numerals.specs.declared.Numbers.{Numbers}
-use Rattle.numerals.specs.declared.Numbers.TheVariants.{Read, Cut}
+use Rattle.std.proofs.Common.{Option, None, Some}
 use Rattle.records.specs.declared.list.LayoutThere.{LayoutThere}
-use Rattle.records.specs.declared.list.LayoutThere.TheVariants.{Whole, Broken}
 use Rattle.records.specs.Source.{layout_at, layouts_at}
 use Rattle.records.specs.List.{there_of, LayoutRead}
 
@@ -60,27 +57,27 @@ module _ {count : ℕ} {bytes : List ℕ} {at : ℕ} {places : List ℕ} {next i
   left : i < count → count - i ≡ suc (count - suc i)
   left l = omega arith
 
-  module _ (before v : List ℕ) {r : LayoutThere} (read : LayoutRead bytes next before v r) where
-    pub listing-broken : i < count → r ≡ Broken → broken_list ≡ read_layouts count bytes at
+  module _ (before v : List ℕ) {r : Option LayoutThere} (read : LayoutRead bytes next before v r) where
+    pub listing-broken : i < count → r ≡ None → broken_list ≡ read_layouts count bytes at
     listing-broken l e =
         let none : read_layout bytes next ≡ Numerals.cut = sym (ap (there_of v) (sym e) ∙ read.reads) in
         rw (h.reads, left l, layouts-cut (count - suc i) bytes next none, led-broken)
 
-    module _ (f : Outline) {end : ℕ} (e : r ≡ Whole f end) where
+    module _ (there : LayoutThere) (e : r ≡ Some there) where
       abbrev xs : List ℕ
-      xs = f.form ∷ f.m ∷ f.t ∷ take f.count v
+      xs = let f = there.outline in f.form ∷ f.m ∷ f.t ∷ take f.count v
 
-      some : read_layout bytes next ≡ Numerals.numbers xs end
+      some : read_layout bytes next ≡ Numerals.numbers xs there.end
       some = sym (ap (there_of v) (sym e) ∙ read.reads)
 
       -- its place is one of the dump
       pub listing-place : length bytes ≤ 65536 → next < 65536
-      listing-place short = omega (arith, layout-further bytes next xs end some)
+      listing-place short = omega (arith, layout-further bytes next xs there.end some)
 
-      pub listing-next : i < count → i < 64 → Listing count bytes at (set places i next) end (i + 1)
+      pub listing-next : i < count → i < 64 → Listing count bytes at (set places i next) there.end (i + 1)
       unfolding layouts_at layout_at
       listing-next l k =
-          let turn = layouts-one (count - suc i) bytes next xs end some in
+          let turn = layouts-one (count - suc i) bytes next xs there.end some in
           let one : layouts_at bytes (next ∷ []) ≡ listed_by xs ∷ [] = rw some in
           record {
             long = length-set places i next ∙ h.long;
@@ -96,12 +93,12 @@ module _ {count : ℕ} {bytes : List ℕ} {at : ℕ} {places : List ℕ} {next i
       rw (h.reads, none, ← all, led-all)
 
 -- the list at the front of a dump, by its count
-module _ (bytes xs : List ℕ) {r : Numbers} (read : numbers_of xs r ≡ read_numbers 1 bytes 0) where
-  pub count_cut : r ≡ Cut → broken_list ≡ layout_list bytes
+module _ (bytes xs : List ℕ) {r : Option ℕ} (read : numbers_of xs r ≡ read_numbers 1 bytes 0) where
+  pub count_cut : r ≡ None → broken_list ≡ layout_list bytes
   unfolding layout_list counted_layouts
   count_cut e = ap (counted_layouts bytes) (ap (numbers_of xs) (sym e) ∙ read)
 
-  module _ {end : ℕ} (e : r ≡ Read end) where
+  module _ {end : ℕ} (e : r ≡ Some end) where
     pub count-over : 64 < get_or xs 0 0 → broken_list ≡ layout_list bytes
     unfolding layout_list counted_layouts
     count-over h = sym (rw (lt-ltb 64 (get_or xs 0 0) h)) ∙ ap (counted_layouts bytes) (ap (numbers_of xs) (sym e) ∙ read)

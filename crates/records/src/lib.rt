@@ -3,22 +3,20 @@
 
 pub mod list;
 
-ghost use Rattle.std.specs.Prelude.{◌≡◌, List, ℕ, suc, ◌+◌, ◌^◌, ◌≤◌, ◌<◌, leb, length, get_or, take, drop};
+ghost use Rattle.std.specs.Prelude.{◌≡◌, List, ℕ, suc, ◌+◌, ◌-◌, ◌^◌, ◌≤◌, ◌<◌, leb, length, get_or, take, drop};
 ghost use Rattle.code.specs.Lists.{Below};
 ghost use Rattle.code.specs.Numerals.{read_numbers};
 ghost use Rattle.code.specs.Export.{record_of};
 ghost use Rattle.code.specs.Dump.{own_layouts, listed_layouts, head_length, record_at};
 ghost use Rattle.storing.specs.Put.{Put};
-ghost use Rattle.code.specs.Shape.{shaped};
 ghost use Rattle.code.specs.LayoutList.{unlisted, listed_shape};
-ghost use Rattle.records.specs.Head.{said_shape, head_step};
+ghost use Rattle.records.specs.Head.{said_shape, head_step, headed};
 ghost use Rattle.records.specs.Source.{layouts_at, source_of};
 
 use code::{Kind, Shape};
-use numerals::Numbers;
 
 // What a record says of its layout: in an old dump m, t and v, in a new one the layout's number. What is not said is 0.
-#[derive(Clone, Copy)]
+#[derive(Clone, Copy, PartialEq, Eq)]
 pub struct Said {
     pub layout: u64,
     pub m: u64,
@@ -35,14 +33,14 @@ pub struct Head {
     pub count: usize,
 }
 
-#[derive(Clone, Copy)]
-pub enum HeadThere {
-    Whole(Head),
-    Malformed { offset: usize },
+// A malformed record, whose first byte stands at the offset.
+#[derive(Clone, Copy, Debug, PartialEq, Eq)]
+pub struct Malformed {
+    pub offset: usize,
 }
 
 // Reads the head at a place. The layouts of a new dump stand at `places`, those of an old one in its records.
-pub fn read_head(dump: &[u8], kind: Kind, places: &[u16], at: usize) -> HeadThere
+pub fn read_head(dump: &[u8], kind: Kind, places: &[u16], at: usize) -> Result<Head, Malformed>
     ensures { let bytes = dump.now in
         let source = source_of kind bytes places.now in
         head_step source result ≡ record_at source bytes at (read_numbers (suc (head_length source)) bytes at) }
@@ -53,47 +51,32 @@ pub fn read_head(dump: &[u8], kind: Kind, places: &[u16], at: usize) -> HeadTher
     }
 }
 
-fn read_own_head(dump: &[u8], at: usize) -> HeadThere
+fn read_own_head(dump: &[u8], at: usize) -> Result<Head, Malformed>
     ensures { head_step own_layouts result ≡ record_at own_layouts dump.now at (read_numbers 5 dump.now at) }
 {
     let mut numbers = [0u64; 5];
-    let Numbers::Read { end } = numerals::read_numbers(dump, at, &mut numbers) else {
-        return HeadThere::Malformed { offset: at };
-    };
-    let count = numbers[4];
-    if ((dump.len() - end) as u64) < count {
-        return HeadThere::Malformed { offset: at };
-    }
-    let said = Said {
-        layout: 0,
-        m: numbers[1],
-        t: numbers[2],
-        v: numbers[3],
-    };
-    HeadThere::Whole(Head {
-        serial: numbers[0],
+    let start = numerals::read_numbers(dump, at, &mut numbers).ok_or(Malformed { offset: at })?;
+    let [serial, m, t, v, count] = numbers;
+    let said = Said { layout: 0, m, t, v };
+    let head = Head {
+        serial,
         said,
-        start: end,
+        start,
         count: count as usize,
-    })
+    };
+    whole(dump, at, head)
 }
 
-fn read_listed_head(dump: &[u8], places: &[u16], at: usize) -> HeadThere
+fn read_listed_head(dump: &[u8], places: &[u16], at: usize) -> Result<Head, Malformed>
     ensures { let bytes = dump.now in
         let source = listed_layouts (layouts_at bytes places.now) in
         head_step source result ≡ record_at source bytes at (read_numbers 3 bytes at) }
 {
     let mut numbers = [0u64; 3];
-    let Numbers::Read { end } = numerals::read_numbers(dump, at, &mut numbers) else {
-        return HeadThere::Malformed { offset: at };
-    };
-    let layout = numbers[1];
+    let start = numerals::read_numbers(dump, at, &mut numbers).ok_or(Malformed { offset: at })?;
+    let [serial, layout, count] = numbers;
     if places.len() as u64 <= layout {
-        return HeadThere::Malformed { offset: at };
-    }
-    let count = numbers[2];
-    if ((dump.len() - end) as u64) < count {
-        return HeadThere::Malformed { offset: at };
+        return Err(Malformed { offset: at });
     }
     let said = Said {
         layout,
@@ -101,12 +84,24 @@ fn read_listed_head(dump: &[u8], places: &[u16], at: usize) -> HeadThere
         t: 0,
         v: 0,
     };
-    HeadThere::Whole(Head {
-        serial: numbers[0],
+    let head = Head {
+        serial,
         said,
-        start: end,
+        start,
         count: count as usize,
-    })
+    };
+    whole(dump, at, head)
+}
+
+// A head, where as many bytes follow it as it says.
+fn whole(dump: &[u8], at: usize, head: Head) -> Result<Head, Malformed>
+    requires { head.start ≤ length dump.now }
+    ensures { result ≡ headed (length dump.now - head.start) at head }
+{
+    if dump.len() - head.start < head.count {
+        return Err(Malformed { offset: at });
+    }
+    Ok(head)
 }
 
 // The shape that a record says, of zeros where it says a number that the list has not.
@@ -114,22 +109,8 @@ pub fn shape_said(dump: &[u8], kind: Kind, places: &[u16], said: Said) -> Shape
     ensures { result ≡ said_shape (source_of kind dump.now places.now) said }
 {
     match kind {
-        Kind::Old => own_shape(said),
+        Kind::Old => list::form_zero(said.m, said.t, said.v),
         Kind::New => listed_shape(dump, places, said.layout),
-    }
-}
-
-fn own_shape(said: Said) -> Shape
-    ensures { result ≡ shaped said.m said.t said.v }
-{
-    let mut v = [0u64; 16];
-    v[0] = said.v;
-    Shape {
-        form: 0,
-        m: said.m,
-        t: said.t,
-        count: 1,
-        v,
     }
 }
 
@@ -138,7 +119,7 @@ pub fn listed_shape(dump: &[u8], places: &[u16], number: u64) -> Shape
     ensures { result ≡ listed_shape (get_or (layouts_at dump.now places.now) number unlisted) }
 {
     if places.len() as u64 <= number {
-        return list::no_layout();
+        return list::form_zero(0, 0, 0);
     }
     list::shape_at(dump, places[number as usize] as usize)
 }
@@ -147,13 +128,8 @@ pub fn listed_shape(dump: &[u8], places: &[u16], number: u64) -> Shape
 pub fn part(dump: &[u8], start: usize, count: usize) -> &[u8]
     ensures { result.now ≡ take count (drop start dump.now) }
 {
-    if dump.len() <= start {
-        return &dump[..0];
-    }
-    if count <= dump.len() - start {
-        return &dump[start..start + count];
-    }
-    &dump[start..]
+    let rest = &dump[start.min(dump.len())..];
+    &rest[..count.min(rest.len())]
 }
 
 pub fn record_length(head: &[u64], count: usize) -> usize

@@ -29,11 +29,9 @@ fn gather_bits(flags: u64, m: usize) -> u64
     let groups = groups_of(m);
     let mut left = flags;
     let mut bits: u64 = 0;
-    let mut k = 0;
-    while k < groups {
+    for _ in 0..groups {
         bits = 2 * bits + left % 2;
         left = left >> m;
-        k += 1;
     }
     bits
 }
@@ -61,13 +59,11 @@ pub fn report(before: &[u64; 16], after: &[u64; 16], n: usize, m: usize, bits: &
     *bits = [0u64; 4];
     let groups = groups_of(m);
     let mut count: u64 = 0;
-    let mut i = 0;
-    while i < n {
+    for i in 0..n {
         let fresh = fresh_bits(before[i], after[i], m);
         let at = groups * i;
         bits[at / 64] += fresh << (at % 64);
         count += ones(fresh);
-        i += 1;
     }
     count
 }

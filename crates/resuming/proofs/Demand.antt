@@ -1,20 +1,24 @@
 -- Document 02, §9, of the calls: over all answers and cells at exit that their promises allow.
-use Prim.Native.Nat.{ℕ, zero, suc, ◌+◌, ◌-◌, ◌≤◌, ◌<◌}
+use Prim.Native.Nat.{ℕ, suc, ◌+◌, ◌-◌, ◌≤◌, ◌<◌}
 use mathlib.Core.Path.{◌≡◌, refl, sym, ap, ◌∙◌}
-use mathlib.Core.Logic.{◌⊎◌, inl, inr, ◌↔◌, ◌≢◌}
-use mathlib.Core.Bool.{Bool, true, false}
+use mathlib.Core.Logic.{◌⊎◌, inl, inr, ◌↔◌}
+use mathlib.Core.Bool.{false}
 use mathlib.Core.List.{List, [], ◌∷◌, Memᴰ}
 use native.Mathlib.Omega.{arith}
-use native.Mathlib.Decide.{ℕ_discrete}
 use native.Mathlib.Nat.{le_refl, sub-zero}
-use lib.ListN.{length, get_or, drop}
+use lib.ListN.{length, get_or}
 use lib.Dec.{leb}
+use Rattle.std.proofs.Common.{Result, Ok, Err, IsOk, is_ok}
 use Rattle.code.specs.declared.Shape.{Shape}
+use Rattle.code.specs.declared.Refusal.{Refusal}
+use Rattle.code.specs.declared.Refusal.TheVariants.{Number, Spent}
+use Rattle.code.specs.Refusals.{refusal_reply, number_of}
+use Rattle.code.proofs.Refused.{refusal-alike, refused-some, refused-early}
 use Rattle.code.specs.Shape.{first_of, ranges_of, order_of, counts_of, code_of}
 use Rattle.code.specs.Code.{erased, width}
 use Rattle.code.specs.Cells.{wit, listed, ones}
 use Rattle.code.specs.Field as Field
-use Rattle.code.specs.Calls.{groups_in, answer, leaves, filled, layout_refusal, field_read, read_reply, write_refusal, write_reply, write_leaves, refusal_in, generation_in, turned_in, turned_by}
+use Rattle.code.specs.Calls.{groups_in, answer, leaves, filled, layout_refusal, field_read, read_reply, write_refusal, write_leaves, refusal_in, generation_in, turned_in, turned_by}
 use Rattle.code.specs.Resume.{fresh_groups, bits_at, resume_refusal, resume_reply, resume_leaves, resume_fields}
 use Rattle.code.proofs.Wits.{Bytes}
 use Rattle.code.proofs.Tests.{le-or-lt, clash}
@@ -27,36 +31,51 @@ use Rattle.code.proofs.ResumeDemand as Code
 use Rattle.code.proofs.CutOff as CutOff
 use Rattle.code.proofs.CutOff.{Between}
 use Rattle.reading.specs.declared.Reading.{Reading}
-use Rattle.reading.specs.declared.Reading.TheVariants.{Read}
 use Rattle.reading.specs.Answers.{reading_of}
+use Rattle.reading.proofs.Demand as Reads
 use Rattle.reading.proofs.Unique.{same-reading}
-use Rattle.writing.specs.declared.Writing.{Writing}
-use Rattle.writing.specs.declared.Writing.TheVariants.{Written}
+use Rattle.writing.specs.declared.Written.{Written}
 use Rattle.writing.specs.Answers.{writing_of}
-use Rattle.writing.proofs.Accepted.{accepts, granted-first, made-with-none}
+use Rattle.writing.proofs.Accepted.{wrote, granted-first, made-with-none}
 use Rattle.writing.proofs.Rewriting as Writes
 use Rattle.writing.proofs.Demand.{CallsFrom, accepted-from}
 use Rattle.resuming.specs.declared.Resumed.{Resumed}
 use Rattle.resuming.specs.Answers.{resumed_of}
 use Rattle.resuming.proofs.Resuming.{Answers}
+use Rattle.resuming.proofs.Unique.{fields-at}
 
--- the refusal that the fields tell, and what they tell of an accepted call
-fields-first : (reply : List ℕ) (k : ℕ) (rest : List ℕ) → k ∷ rest ≡ resume_fields reply → k ≡ refusal_in reply
-unfolding resume_fields filled
-fields-first [] k rest q = cc
-fields-first (r ∷ reply) k rest q = cc
+-- the number that an answer tells, 0 where the call is accepted
+abbrev told_number : Result Resumed Refusal → ℕ
+told_number r = get_or (resumed_of r) 0 0
 
-module _ (s : Shape) (x : ℕ) (bs : List ℕ) (r : Resumed) (after : List ℕ) (promise : Answers s x bs (resumed_of r) after) where
+told-some : (k : Refusal) → 0 < told_number (Err k)
+told-some k = omega (arith, refused-some k, fields-at (refusal_reply k) 0 (omega arith))
+
+told-ok : (r : Result Resumed Refusal) → told_number r ≡ 0 → IsOk r
+told-ok (Ok a) e = refl
+told-ok (Err k) e = absurd (omega (arith, told-some k))
+
+told-err : (r : Result Resumed Refusal) (k : Refusal) → number_of k < 7 → told_number r ≡ number_of k → r ≡ Err k
+told-err (Ok a) k l e = absurd (omega (arith, refused-some k))
+told-err (Err j) k l e =
+    let same : number_of j ≡ number_of k = sym (fields-at (refusal_reply j) 0 (omega arith)) ∙ e in
+    let alone = refused-early j (omega (arith, same)) in
+    rw (refusal-alike j k (alone ∙ rw same (sym (refused-early k l))))
+
+module _ (s : Shape) (x : ℕ) (bs : List ℕ) (r : Result Resumed Refusal) (after : List ℕ) (promise : Answers s x bs (resumed_of r) after) where
+  first : told_number r ≡ refusal_in (resume_reply s x bs)
+  first = ap (λ xs. get_or xs 0 0) promise.0 ∙ fields-at (resume_reply s x bs) 0 (omega arith)
+
   -- a call that answers 0 was granted its layout, and passed every test
-  passed-all : r.refusal ≡ 0 → resume_refusal s x bs ≡ []
+  passed-all : told_number r ≡ 0 → resume_refusal s x bs ≡ []
   unfolding resume_reply answer
-  passed-all z = go (resume_refusal s x bs) refl (sym (fields-first (resume_reply s x bs) _ _ promise.0) ∙ z)
+  passed-all z = go (resume_refusal s x bs) refl (sym first ∙ z)
     where
       go : (k : List ℕ) → resume_refusal s x bs ≡ k → refusal_in (resume_reply s x bs) ≡ 0 → k ≡ []
       go [] q e = refl
       go (k ∷ carried) q e = absurd (omega (arith, resume-some s x bs k carried q, rw q at e))
 
-  laid_out : r.refusal ≡ 0 → layout_refusal s 256 ≡ []
+  laid_out : told_number r ≡ 0 → layout_refusal s 256 ≡ []
   laid_out z = go (layout_refusal s 256) refl
     where
       go : (k : List ℕ) → layout_refusal s 256 ≡ k → k ≡ []
@@ -64,51 +83,55 @@ module _ (s : Shape) (x : ℕ) (bs : List ℕ) (r : Resumed) (after : List ℕ) 
       go (k ∷ carried) q = clash (cc (passed-all z, resume-barred s x bs k carried q))
 
   -- A refused call leaves the cells as they were.
-  pub refused-keeps : r.refusal ≢ 0 → after ≡ bs
+  pub refused-keeps : (k : Refusal) → r ≡ Err k → after ≡ bs
   unfolding resume_reply answer
-  refused-keeps d = promise.1 ∙ go (resume_refusal s x bs) refl
+  refused-keeps j made = promise.1 ∙ go (resume_refusal s x bs) refl
     where
       go : (k : List ℕ) → resume_refusal s x bs ≡ k → resume_leaves s x bs ≡ bs
-      go [] q = absurd (d (fields-first (resume_reply s x bs) _ _ promise.0 ∙ rw q))
+      go [] q = let zero : refusal_in (resume_reply s x bs) ≡ 0 = rw q in absurd (omega (arith, told-some j, ap told_number made, first))
       go (k ∷ carried) q = unfold resume_leaves in unfold leaves in rw q
 
   -- No 1 becomes 0, whatever the answer.
   pub never-falls : Bytes bs → (w : ℕ) → wit (order_of s) bs w ≤ wit (order_of s) after w
-  never-falls B w = elim (ℕ_discrete r.refusal 0) [
-    | yes z ↦ rw promise.1 (Code.resume-rises s (laid_out z) x bs B w)
-    | no d ↦ rw (refused-keeps d) (le_refl (wit (order_of s) bs w))
-  ]
+  never-falls B w = go r refl
+    where
+      go : (a : Result Resumed Refusal) → r ≡ a → wit (order_of s) bs w ≤ wit (order_of s) after w
+      go (Ok a) e = rw promise.1 (Code.resume-rises s (laid_out (ap told_number e)) x bs B w)
+      go (Err k) e = rw (refused-keeps k e) (le_refl (wit (order_of s) bs w))
 
   -- What an accepted call answers and leaves.
-  module _ (B : Bytes bs) (z : r.refusal ≡ 0) where
+  module _ (B : Bytes bs) (a : Resumed) (made : r ≡ Ok a) where
+    z : told_number r ≡ 0
+    z = ap told_number made
+
     -- the groups that are all ones now and not before
     abbrev pub fresh : List ℕ
     fresh = fresh_groups (code_of s) bs after
 
-    told : (r.generation ≡ generation_in (resume_reply s x bs)) × (r.turned ≡ turned_in (resume_reply s x bs)) × (r.count ≡ length fresh)
-        × (r.erased ≡ listed (λ w. bits_at w fresh) 0 4)
+    told : (a.generation ≡ generation_in (resume_reply s x bs)) × (a.turned ≡ turned_in (resume_reply s x bs)) × (a.count ≡ length fresh)
+        × (a.erased ≡ listed (λ w. bits_at w fresh) 0 4)
     unfolding resume_fields filled
     told =
-        let q = promise.0 ∙ ap resume_fields (Code.lists-resumed s (laid_out z) x bs (passed-all z) B) in
+        let q = sym (ap resumed_of made) ∙ promise.0 ∙ ap resume_fields (Code.lists-resumed s (laid_out z) x bs (passed-all z) B) in
         rw promise.1 (cc, cc, cc, cc)
 
     -- The generation is the one behind that which the zero groups point to, never the first.
-    pub generation-found : (r.generation ≡ suc (pointed s bs)) × (2 ≤ r.generation) × (r.generation ≤ s.t)
+    pub generation-found : (a.generation ≡ suc (pointed s bs)) × (2 ≤ a.generation) × (a.generation ≤ s.t)
     generation-found = rw told.0 (Code.resumed-generation s (laid_out z) x bs (passed-all z) B)
 
     -- Every answer that read's promise allows is the generation answered and the number just written.
-    pub reads-back : (a : Reading) → reading_of a ≡ read_reply s after → a ≡ Read r.generation x (s.t - r.generation)
-    reads-back a p = same-reading a (Read r.generation x (s.t - r.generation)) (p ∙ rw (promise.1, told.0) (Code.reads-resumed s (laid_out z) x bs (passed-all z) B))
+    pub reads-back : (b : Result Reading Refusal) → reading_of b ≡ read_reply s after → b ≡ Ok (Reads.told a.generation x (s.t - a.generation))
+    reads-back b p = same-reading b (Ok (Reads.told a.generation x (s.t - a.generation))) (p ∙ rw (promise.1, told.0) (Code.reads-resumed s (laid_out z) x bs (passed-all z) B))
 
     -- The turned count is the ones after less the ones before.
-    pub turned-are : r.turned + ones (order_of s) bs ≡ ones (order_of s) after
+    pub turned-are : a.turned + ones (order_of s) bs ≡ ones (order_of s) after
     unfolding turned_by
     turned-are =
-        let accepted : refusal_in (resume_reply s x bs) ≡ 0 = sym (fields-first (resume_reply s x bs) _ _ promise.0) ∙ z in
+        let accepted : refusal_in (resume_reply s x bs) ≡ 0 = sym first ∙ z in
         rw (told.1, promise.1) (rw accepted at (Code.turned-resumed s (laid_out z) x bs B))
 
     -- The groups told are counted, and each has its bit; they are exactly those that are all ones now and were not before.
-    pub groups-told : (r.count ≡ length fresh) × (r.erased ≡ listed (λ w. bits_at w fresh) 0 4)
+    pub groups-told : (a.count ≡ length fresh) × (a.erased ≡ listed (λ w. bits_at w fresh) 0 4)
     groups-told = (told.2, told.3)
 
     pub groups-exactly : (j : ℕ) → Memᴰ j fresh ↔ Fresh (erased (code_of s)) (groups_in (code_of s) bs) (groups_in (code_of s) after) j
@@ -119,8 +142,8 @@ module _ (s : Shape) (x : ℕ) (bs : List ℕ) (r : Resumed) (after : List ℕ) 
         listed-exactly (erased (code_of s)) (groups_in (code_of s) bs) (groups_in (code_of s) after) j long
 
     -- From there on call j, the first being call 0, is accepted exactly when the generation and j + 1 are together at most t, zeros or not.
-    pub goes_on : (xs : List ℕ) (cells : ℕ → List ℕ) (answers : ℕ → Writing) → CallsFrom s after xs cells answers → (j : ℕ) →
-        InRange (first_of s) (ranges_of s) r.generation xs → j < length xs → accepts (answers j) ≡ leb (r.generation + suc j) s.t
+    pub goes_on : (xs : List ℕ) (cells : ℕ → List ℕ) (answers : ℕ → Result Written Refusal) → CallsFrom s after xs cells answers → (j : ℕ) →
+        InRange (first_of s) (ranges_of s) a.generation xs → j < length xs → is_ok (answers j) ≡ leb (a.generation + suc j) s.t
     goes_on xs cells answers C j b l =
         let i = generation_in (resume_reply s x bs) in
         let stands = Code.stands-resumed s (laid_out z) x bs (passed-all z) B in
@@ -129,7 +152,7 @@ module _ (s : Shape) (x : ℕ) (bs : List ℕ) (r : Resumed) (after : List ℕ) 
         ∙ rw (none, sub-zero))
 
 -- A write that was cut off: cells that lie wit by wit between those before it and those that its promise leaves.
-module _ (s : Shape) (x : ℕ) (before after : List ℕ) (B : Bytes before) (i n : ℕ) (written : Writes.Answers s x before (writing_of (Written i n)) after)
+module _ (s : Shape) (x : ℕ) (before after : List ℕ) (B : Bytes before) (i n : ℕ) (written : Writes.Answers s x before (writing_of (wrote i n)) after)
     (bs : List ℕ) (cut : Between (order_of s) before bs after) where
   ok : layout_refusal s 256 ≡ []
   ok = granted-first s x i n before written.0
@@ -141,44 +164,44 @@ module _ (s : Shape) (x : ℕ) (before after : List ℕ) (B : Bytes before) (i n
   inside = rw written.1 at cut
 
   -- They read as some number or are refused with 11, 15 or 16, never with 3.
-  pub cut-reads : (a : Reading) → reading_of a ≡ read_reply s bs → let k = refusal_in (reading_of a) in ((k ≡ 0) ⊎ (k ≡ 11)) ⊎ ((k ≡ 15) ⊎ (k ≡ 16))
+  pub cut-reads : (a : Result Reading Refusal) → reading_of a ≡ read_reply s bs → let k = refusal_in (reading_of a) in ((k ≡ 0) ⊎ (k ≡ 11)) ⊎ ((k ≡ 15) ⊎ (k ≡ 16))
   cut-reads a p = rw p (CutOff.cut-reads s ok x before B none bs inside)
 
   -- Where they have no reading, resume answers 5 exactly when fewer than h_t zero groups are left; else it accepts the number, in form 2 if that is below the
   -- range of the generation found.
-  module _ (u : Field.has_reading (field_read s bs) ≡ false) (r : Resumed) (left : List ℕ) (promise : Answers s x bs (resumed_of r) left) where
+  module _ (u : Field.has_reading (field_read s bs) ≡ false) (r : Result Resumed Refusal) (left : List ℕ) (promise : Answers s x bs (resumed_of r) left) where
     abbrev pub few : Type 0
     few = Field.zeros (groups_in (code_of s) bs) < get_or (counts_of s) (s.t - 1) 0
 
     enough : (few → ⊥) → get_or (counts_of s) (s.t - 1) 0 ≤ Field.zeros (groups_in (code_of s) bs)
     enough e = elim (le-or-lt (get_or (counts_of s) (s.t - 1) 0) (Field.zeros (groups_in (code_of s) bs))) [ inl l ↦ l | inr f ↦ absurd (e f) ]
 
-    refusal_is : (k : List ℕ) → resume_refusal s x bs ≡ k → r.refusal ≡ refusal_in (answer k (0 ∷ []))
+    refusal_is : (k : List ℕ) → resume_refusal s x bs ≡ k → told_number r ≡ refusal_in (answer k (0 ∷ []))
     unfolding resume_reply answer
-    refusal_is [] q = fields-first (resume_reply s x bs) _ _ promise.0 ∙ rw q
-    refusal_is (k ∷ carried) q = fields-first (resume_reply s x bs) _ _ promise.0 ∙ rw q
+    refusal_is [] q = first s x bs r left promise ∙ rw q
+    refusal_is (k ∷ carried) q = first s x bs r left promise ∙ rw q
 
-    pub cut-resumed : (s.form ≡ 2 → ⊥) → (few → ⊥) → r.refusal ≡ 0
+    pub cut-resumed : (s.form ≡ 2 → ⊥) → (few → ⊥) → IsOk r
     unfolding answer
-    cut-resumed one e = refusal_is [] (CutOff.cut-resumed s ok x before B none bs inside u one (enough e))
+    cut-resumed one e = told-ok r (refusal_is [] (CutOff.cut-resumed s ok x before B none bs inside u one (enough e)))
 
-    pub cut-accepted : (few → ⊥) → x < get_or (ranges_of s) (place_in s bs) 0 → r.refusal ≡ 0
+    pub cut-accepted : (few → ⊥) → x < get_or (ranges_of s) (place_in s bs) 0 → IsOk r
     unfolding answer
-    cut-accepted e g = refusal_is [] (CutOff.cut-accepted s ok x before B none bs inside u (enough e) g)
+    cut-accepted e g = told-ok r (refusal_is [] (CutOff.cut-accepted s ok x before B none bs inside u (enough e) g))
 
-    pub cut-beyond : (few → ⊥) → get_or (ranges_of s) (place_in s bs) 0 ≤ x → r.refusal ≡ 6
+    pub cut-beyond : (few → ⊥) → get_or (ranges_of s) (place_in s bs) 0 ≤ x → r ≡ Err Number
     unfolding answer
-    cut-beyond e g = refusal_is (6 ∷ []) (CutOff.cut-beyond s ok x before B none bs inside u (enough e) g)
+    cut-beyond e g = told-err r Number (omega arith) (refusal_is (6 ∷ []) (CutOff.cut-beyond s ok x before B none bs inside u (enough e) g))
 
-    pub cut-spent : (r.refusal ≡ 5) ↔ few
+    pub cut-spent : (r ≡ Err Spent) ↔ few
     unfolding answer
     cut-spent = (
       λ five. elim (le-or-lt (get_or (counts_of s) (s.t - 1) 0) (Field.zeros (groups_in (code_of s) bs))) [
         | inl e ↦ elim (le-or-lt (get_or (ranges_of s) (place_in s bs) 0) x) [
-          | inl g ↦ absurd (omega (arith, five, cut-beyond (λ f. omega arith) g))
-          | inr g ↦ absurd (omega (arith, five, cut-accepted (λ f. omega arith) g))
+          | inl g ↦ clash (cc (cut-beyond (λ f. omega arith) g))
+          | inr g ↦ clash (cc (cut-accepted (λ f. omega arith) g))
         ]
         | inr f ↦ f
       ],
-      λ f. refusal_is (5 ∷ []) ((CutOff.cut-spent s ok x before B none bs inside u).1 f),
+      λ f. told-err r Spent (omega arith) (refusal_is (5 ∷ []) ((CutOff.cut-spent s ok x before B none bs inside u).1 f)),
     )

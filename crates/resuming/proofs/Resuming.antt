@@ -1,5 +1,5 @@
 -- The replies of resume and the cells that it leaves, from what its calls have found.
-use Prim.Native.Nat.{ℕ, zero, suc, ◌+◌, ◌*◌, ◌-◌, ◌^◌, ◌≤◌, ◌<◌}
+use Prim.Native.Nat.{ℕ, ◌+◌, ◌*◌, ◌-◌, ◌^◌, ◌≤◌, ◌<◌}
 use mathlib.Core.Path.{◌≡◌, refl, sym, ap, ap₂, ◌∙◌}
 use mathlib.Core.Logic.{◌≢◌}
 use mathlib.Core.Bool.{Bool, true, false, cond, not}
@@ -11,14 +11,20 @@ use lib.Arith.{lt_of_le-ne}
 use lib.Dec.{eqb}
 use lib.ListN.{length, get_or, replicate}
 use borrow.Author.Tests.{not-true, eq-eqb, ne_eqb}
+use Rattle.std.proofs.Common.{Ok, Err}
 use Rattle.code.specs.declared.Shape.{Shape}
+use Rattle.code.specs.declared.Refusal.{Refusal}
+use Rattle.code.specs.declared.Refusal.TheVariants.{Readable, Spent}
+use Rattle.code.specs.declared.RefusalFields.{RefusalFields}
+use Rattle.code.specs.Refusals.{refusal_reply, number_of}
+use Rattle.code.proofs.Refused.{refusal_fields_of, refusal-short, fields-told}
 use Rattle.code.specs.declared.Generation.{Generation}
 use Rattle.code.specs.Shape.{ranges_of, order_of, counts_of, width_of, code_of}
 use Rattle.code.specs.Code.{generation_at}
-use Rattle.code.specs.Cells.{sound, stored, turned}
+use Rattle.code.specs.Cells.{listed, sound, stored, turned}
 use Rattle.code.specs.Field as Field
 use Rattle.code.specs.Calls.{groups_in, read_cells, field_read, over_range, filled, generation, layout_fields, layout_reply}
-use Rattle.code.specs.Resume.{freshly, places_from, fresh_groups, exhausted, resume_reply, resume_leaves, resume_fields}
+use Rattle.code.specs.Resume.{bits_at, freshly, places_from, fresh_groups, exhausted, resume_reply, resume_leaves, resume_fields}
 use Rattle.code.proofs.Tests.{clash}
 use Rattle.code.proofs.Report.{places-padded}
 use Rattle.code.proofs.ResumeCall.{Refuses, place_in, resumed_groups, resume-no-layout, resume-unsound, resume-large, resume-readable, resume-spent, resume-late, resume-made, found-most, found-unread, found-ready, exhausted-last, exhausted-not, resumed-opened}
@@ -27,14 +33,12 @@ use Rattle.words.specs.Marks.{Ends}
 use Rattle.cells.specs.Cells.{Storable, Stored}
 use Rattle.cells.proofs.Sizes.{storable}
 use Rattle.layout.specs.Plan.{Granted}
-use Rattle.layout.proofs.Planning.{plan-refused}
+use Rattle.layout.proofs.Planning.{laid-number, laid-alone}
 use Rattle.reading.specs.Answers.{SoundCells, held_groups, field_groups, Looked}
 use Rattle.reading.proofs.Looking.{sound-width, loadable, width}
 use Rattle.writing.specs.declared.Held.{Held}
-use Rattle.writing.specs.Answers.{after_in, laid_by, wits_of, Due, Carries, Takes}
+use Rattle.writing.specs.Answers.{laid_by, wits_of, Due, Carries, Takes}
 use Rattle.writing.proofs.Laying.{takes, laid-after}
-use Rattle.reporting.specs.Report.{flags_of}
-use Rattle.resuming.specs.declared.Aim.TheVariants.{At, Refused}
 use Rattle.resuming.specs.Answers.{aim_on, reported}
 
 -- the fields answered and the cells at exit, as a call's promise has them
@@ -52,12 +56,28 @@ words-few {m} {n} {h} E l = elim (ℕ_discrete m 2) [
   ]
 ]
 
+-- the fields of a refusal
+refusal-filled : (r : List ℕ) → length r ≤ 3 → get_or r 0 0 ∷ get_or r 1 0 ∷ get_or r 2 0 ∷ 0 ∷ replicate 4 0 ≡ resume_fields r
+unfolding resume_fields filled listed bits_at
+refusal-filled [] l = refl
+refusal-filled (a ∷ []) l = refl
+refusal-filled (a ∷ b ∷ []) l = refl
+refusal-filled (a ∷ b ∷ c ∷ []) l = refl
+refusal-filled (a ∷ b ∷ c ∷ d ∷ r) l = absurd (omega arith)
+
+pub refused-fields : (k : Refusal) (c : RefusalFields) → refusal_fields_of c ≡ filled 3 (refusal_reply k) →
+    c.number ∷ c.first ∷ c.second ∷ 0 ∷ replicate 4 0 ≡ resume_fields (refusal_reply k)
+refused-fields k c told =
+    let t = fields-told k c told in
+    rw (t.0, t.1, t.2) (refusal-filled (refusal_reply k) (refusal-short k))
+
 module _ (s : Shape) (x : ℕ) (bs : List ℕ) {fields : List ℕ} where
   refuses : (k : ℕ) → fields ≡ resume_fields (k ∷ []) → Refuses s x bs k → Answers s x bs fields bs
   refuses k q w = (q ∙ ap resume_fields (sym w.0), sym w.1)
 
-  pub resumes-refused : {k : ℕ} {h : List ℕ} → fields ≡ resume_fields (k ∷ []) → k ∷ h ≡ filled layout_fields (layout_reply s 256) → k ≢ 0 → Answers s x bs fields bs
-  resumes-refused {k} q laid d = refuses k q (resume-no-layout s x bs k (plan-refused s laid (lt_of_le-ne (omega arith) (λ z. d (sym z)))))
+  pub resumes-refused : (k : Refusal) {h : List ℕ} → fields ≡ resume_fields (refusal_reply k) → number_of k ∷ h ≡ filled layout_fields (layout_reply s 256) →
+      Answers s x bs fields bs
+  resumes-refused k q laid = refuses (number_of k) (rw (laid-alone s 256 k laid) at q) (resume-no-layout s x bs (number_of k) (laid-number s 256 k laid))
 
 -- the place i that a reading r aims at
 pub record Aimed (s : Shape) (bs : List ℕ) (i : ℕ) : Type 0 where
@@ -106,41 +126,41 @@ module _ {s : Shape} {h : List ℕ} (G : Granted s h) (x : ℕ) (bs : List ℕ) 
     unfolding field_read read_cells width_of
     reads_so = rw K.same at (sym K.read)
 
-    pub aims : (i : ℕ) → At i ≡ aim_on s.t r → Aimed s bs i
+    pub aims : (i : ℕ) → Ok i ≡ aim_on s.t r → Aimed s bs i
     unfolding Field.has_reading generation
     aims i q = go r reads_so q
       where
-        behind : (j : ℕ) → At i ≡ cond (eqb j s.t) (Refused 5) (At j) → (i ≡ j) × (j ≢ s.t)
+        behind : (j : ℕ) → Ok i ≡ cond (eqb j s.t) (Err Spent) (Ok j) → (i ≡ j) × (j ≢ s.t)
         behind j q = elim (ℕ_discrete j s.t) [
           | yes t ↦ let q' = rw (eq-eqb j s.t t) at q in clash (cc)
           | no d ↦ let q' = rw (ne_eqb j s.t d) at q in let same : i ≡ j = cc in (same, d)
         ]
 
-        go : (r : Field.Reading) → field_read s bs ≡ r → At i ≡ aim_on s.t r → Aimed s bs i
+        go : (r : Field.Reading) → field_read s bs ≡ r → Ok i ≡ aim_on s.t r → Aimed s bs i
         go Field.blank e q = clash (cc)
         go (Field.reads j y) e q = clash (cc)
         go (Field.miscounted j u) e q = let b = behind j q in aimed (Field.miscounted j u) e refl i b.0 (rw b.0 b.1)
         go (Field.beyond j) e q = let b = behind j q in aimed (Field.beyond j) e refl i b.0 (rw b.0 b.1)
 
-    pub resumes-not : (fields : List ℕ) (k : ℕ) → fields ≡ resume_fields (k ∷ []) → Refused k ≡ aim_on s.t r → Answers s x bs fields bs
+    pub resumes-not : (fields : List ℕ) (k : Refusal) → fields ≡ resume_fields (refusal_reply k) → Err k ≡ aim_on s.t r → Answers s x bs fields bs
     unfolding Field.has_reading generation
     resumes-not fields k p q = go r reads_so q
       where
-        readable : Field.has_reading (field_read s bs) ≡ true → k ≡ 17 → Answers s x bs fields bs
+        readable : Field.has_reading (field_read s bs) ≡ true → k ≡ Readable → Answers s x bs fields bs
         readable e same = refuses s x bs 17 (rw same at p) (resume-readable s x bs G.ok sure l e)
 
         spent : (r : Field.Reading) → field_read s bs ≡ r → Field.has_reading r ≡ false → (j : ℕ) → j ≡ generation r →
-            Refused k ≡ cond (eqb j s.t) (Refused 5) (At j) → Answers s x bs fields bs
+            Err k ≡ cond (eqb j s.t) (Err Spent) (Ok j) → Answers s x bs fields bs
         spent r e u j g q = elim (ℕ_discrete j s.t) [
           | yes t ↦
               let q' = rw (eq-eqb j s.t t) at q in
-              let five : k ≡ 5 = cc in
+              let five : k ≡ Spent = cc in
               let all = last ((found-unread s G.ok bs r e u).0 ∙ sym g ∙ t) in
               refuses s x bs 5 (rw five at p) (resume-spent s x bs G.ok sure l (rw e u) all)
           | no d ↦ let q' = rw (ne_eqb j s.t d) at q in clash (cc)
         ]
 
-        go : (r : Field.Reading) → field_read s bs ≡ r → Refused k ≡ aim_on s.t r → Answers s x bs fields bs
+        go : (r : Field.Reading) → field_read s bs ≡ r → Err k ≡ aim_on s.t r → Answers s x bs fields bs
         go Field.blank e q = readable (rw e) (cc)
         go (Field.reads i y) e q = readable (rw e) (cc)
         go (Field.miscounted i u) e q = spent (Field.miscounted i u) e refl i refl q

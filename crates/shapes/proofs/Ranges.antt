@@ -1,13 +1,13 @@
 -- The bounds as the code tests them: first those of the outline, then the ranges one by one.
-use Prim.Native.Nat.{ℕ, suc, ◌+◌, ◌-◌, ◌^◌, ◌≤◌, ◌<◌}
-use mathlib.Core.Path.{◌≡◌, sym, ◌∙◌}
+use Prim.Native.Nat.{ℕ, zero, suc, ◌+◌, ◌-◌, ◌^◌, ◌≤◌, ◌<◌}
+use mathlib.Core.Path.{◌≡◌, refl, ap}
 use mathlib.Core.List.{List}
 use mathlib.Core.Bool.{Bool, true, false, cond, not, ◌&&◌}
 use native.Mathlib.Omega.{arith}
-use native.Mathlib.Nat.{sub-zero}
-use native.Mathlib.Numerals.{add-one}
 use lib.Dec.{leb, eqb}
-use lib.ListN.{get_or}
+use lib.ListN.{get_or, length, take, drop}
+use Rattle.std.specs.List.{list_all}
+use Rattle.std.proofs.Math.Seq.{drop-cons}
 use borrow.Author.Tests.{not-true, not-false, leb-true, eqb-true}
 use Rattle.shapes.specs.declared.Outline.{Outline}
 use Rattle.code.specs.Cells.{listed}
@@ -16,23 +16,21 @@ use Rattle.shapes.specs.Outlines.{outlined}
 use Rattle.code.proofs.Tests.{both_true}
 use Rattle.shapes.specs.Outlines.{outline_within, outline_outside}
 
-module _ (f : ℕ → ℕ) (n i : ℕ) where
-  module _ (l : i < n) where
-    -- the one at i, and those behind it
-    pub range-then : all_ranges (listed f i (n - i)) ≡ (leb 2 (f i) && leb (f i) (2 ^ 56)) && all_ranges (listed f (i + 1) (n - (i + 1)))
-    unfolding all_ranges listed
-    range-then = let q : n - i ≡ suc (n - suc i) = omega arith in rw (q, add-one)
+-- a range within its bounds
+abbrev pub is_range : ℕ → Bool
+is_range x = leb 2 x && leb x (2 ^ 56)
 
-    module _ (b : Bool) (here : b ≡ leb 2 (f i) && leb (f i) (2 ^ 56)) where
-      pub range-wrong : not b ≡ true → false ≡ all_ranges (listed f i (n - i))
-      range-wrong w = sym (range-then ∙ rw (← here, not-true b w))
+-- those at i and behind it, n of them
+pub ranges-listed : (v : List ℕ) (i n : ℕ) → i + n ≤ length v → list_all is_range (take n (drop i v)) ≡ all_ranges (listed (λ k. get_or v k 0) i n)
+unfolding all_ranges listed
+ranges-listed v i zero h = refl
+ranges-listed v i (suc n) h = rw (drop-cons v i 0 (omega arith)) (ap (λ b. is_range (get_or v i 0) && b) (ranges-listed v (suc i) n (omega arith)))
 
-      pub range-right : not b ≡ false → all_ranges (listed f i (n - i)) ≡ all_ranges (listed f (i + 1) (n - (i + 1)))
-      range-right w = range-then ∙ rw (← here, not-false b w)
-
-  pub ranges-end : n ≤ i → true ≡ all_ranges (listed f i (n - i))
-  unfolding all_ranges listed
-  ranges-end l = let q : n - i ≡ 0 = omega arith in rw q
+-- the first, and those behind it
+first-then : (f : ℕ → ℕ) (n : ℕ) → 0 < n → all_ranges (listed f 0 n) ≡ is_range (f 0) && all_ranges (listed f 1 (n - 1))
+unfolding all_ranges listed
+first-then f zero l = absurd (omega (arith, l))
+first-then f (suc n) l = ap (λ k. is_range (f 0) && all_ranges (listed f 1 k)) (omega arith)
 
 module _ (f : Outline) where
   pub outside-by-outline : outline_outside f ≡ true → (v : List ℕ) (g : ℕ) → outside (outlined f v) g ≡ true
@@ -58,5 +56,5 @@ module _ (f : Outline) where
         later ≡ all_ranges (listed (λ i. get_or v i 0) 1 (f.count - 1)) → not (first && later && leb g 256) ≡ outside (outlined f v) g
     unfolding outside given outline_outside
     ranges-tested v g first later a b =
-        let all = rw sub-zero at (range-then (λ i. get_or v i 0) f.count 0 count-within.0) in
+        let all = first-then (λ i. get_or v i 0) f.count count-within.0 in
         rw (not-false (outline_within f) w, all, a, b)

@@ -32,6 +32,7 @@ pub fn outline_of(s: Shape) -> Outline
 }
 
 // The least number of places that generation 1 writes.
+#[tactic(auto, unfolding(code::specs::Shape::first_of))]
 pub fn first(f: Outline) -> u64
     ensures { ((v : List ℕ) → result ≡ first_of (outlined f v)) × (result ≤ 1) }
 {
@@ -39,6 +40,7 @@ pub fn first(f: Outline) -> u64
 }
 
 // The order of the bits in a byte.
+#[tactic(auto, unfolding(code::specs::Shape::order_of))]
 pub fn order(f: Outline) -> u64
     ensures { (v : List ℕ) → result ≡ order_of (outlined f v) }
 {
@@ -68,6 +70,7 @@ pub fn all_ones(m: u64) -> u64
 const V_MAX: u64 = 0x0100_0000_0000_0000;
 
 // How many ranges a shape has.
+#[tactic(auto, unfolding(code::specs::Shape::ranges_due))]
 fn ranges_due(f: Outline) -> u64
     ensures { result ≡ ranges_due f.form f.t }
 {
@@ -86,17 +89,11 @@ fn later_ranges(v: &[u64; 16], count: usize) -> bool
     requires { (0 < count) × (count ≤ 16) }
     ensures { result ≡ all_ranges (listed (λ i. get_or v.now i 0) 1 (count - 1)) }
 {
-    let mut i = 1;
-    while i < count {
-        if !is_range(v[i]) {
-            return false;
-        }
-        i += 1;
-    }
-    true
+    v[1..count].iter().all(|&x| is_range(x))
 }
 
 // Whether a shape is outside its bounds whatever its ranges are, which is refusal 1.
+#[tactic(auto, unfolding(crate::specs::Outlines::outline_outside))]
 pub fn outline_outside(f: Outline) -> bool
     ensures { result ≡ outline_outside f }
 {

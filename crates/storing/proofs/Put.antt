@@ -1,6 +1,6 @@
 -- Laws of stores one after the other.
 use mathlib.Core.Path.{◌≡◌, refl, sym, ◌∙◌}
-use mathlib.Core.Bool.{Bool, true, false, not}
+use mathlib.Core.Bool.{Bool, true, false}
 use mathlib.Core.List.{List, [], ◌∷◌, ◌++◌, append_assoc}
 use Prim.Native.Nat.{ℕ, suc, ◌+◌, ◌-◌, ◌≤◌}
 use native.Mathlib.Omega.{arith}
@@ -9,7 +9,9 @@ use native.Mathlib.Numerals.{add-one}
 use lib.Dec.{leb}
 use lib.ListN.{length, take, drop, set, length-set, length-append}
 use lib.Seq.{sets, length-sets, sets-eq, set_comm}
-use borrow.Author.Tests.{le-leb, leb-true, not-true, not-false}
+use borrow.Author.Tests.{le-leb, leb-true}
+use borrow.Rule.Slice.PartMut.{put_mid}
+use Rattle.std.proofs.lemmas.List.{drop-drop}
 use Rattle.storing.specs.Put.{Put, fitting}
 
 sets-append : (b : List ℕ) (at : ℕ) (ys zs : List ℕ) → sets b at (ys ++ zs) ≡ sets (sets b at ys) (at + length ys) zs
@@ -30,6 +32,14 @@ put-length {b} {c} {at} {n} {ys} p = rw p.stored (length-sets b at ys)
 pub put-pastes : {b c : List ℕ} {at n : ℕ} {ys : List ℕ} → Put b c at ys n → n ≤ length b → c ≡ take at b ++ (ys ++ drop n b)
 put-pastes {b} {c} {at} {n} {ys} p h = rw (p.stored, p.ends) (sets-eq ys b at (omega arith) ∙ append_assoc (take at b) ys (drop (at + length ys) b))
 
+-- bytes copied over the part from `at` on
+pub part-put : {ys zs : List ℕ} {n end : ℕ} (b : List ℕ) (at : ℕ) → zs ≡ ys → n ≡ length ys → at + length ys ≤ length b → end ≡ at + length ys →
+    Put b (put_mid at n b zs) at ys end
+part-put {ys} {zs} {n} b at e k h q = record {
+  stored = rw (e, k, drop-drop) (sym (sets-eq ys b at h ∙ append_assoc (take at b) ys (drop (at + length ys) b)));
+  ends = q;
+}
+
 -- what fits: all where there is room for all, and never more than there is room for
 module _ (b : List ℕ) (at : ℕ) (ys : List ℕ) where
   pub fitting-all : at + length ys ≤ length b → fitting b at ys ≡ ys
@@ -46,12 +56,12 @@ module _ (b : List ℕ) (at : ℕ) (ys : List ℕ) where
 
   -- where a test told that they do not fit, nothing is stored; where it told that they do, there is room
   module _ {fits : Bool} (told : fits ≡ leb (length ys) (length b - at)) where
-    pub put-unfit : not fits ≡ true → Put b b at (fitting b at ys) at
+    pub put-unfit : fits ≡ false → Put b b at (fitting b at ys) at
     unfolding fitting
-    put-unfit e = rw (sym told ∙ not-true fits e) (put-none b at)
+    put-unfit e = rw (sym told ∙ e) (put-none b at)
 
-    pub fits-room : at ≤ length b → not fits ≡ false → at + length ys ≤ length b
-    fits-room h e = omega (arith, leb-true (length ys) (length b - at) (sym told ∙ not-false fits e))
+    pub fits-room : at ≤ length b → fits ≡ true → at + length ys ≤ length b
+    fits-room h e = omega (arith, leb-true (length ys) (length b - at) (sym told ∙ e))
 
 -- a loop that stores `all` from place `from` on: `left` of it is still to be stored, from place `at` up to place `end`
 pub record Storing (before : List ℕ) (from : ℕ) (all after : List ℕ) (at : ℕ) (left : List ℕ) (end : ℕ) : Type 0 where

@@ -1,8 +1,7 @@
--- Documents 01 and 02 (RULES 13): the answer of a call that stores into a lent output, as a reply: 0 and the length, or the refusal's number.
-use Rattle.std.specs.Prelude.{ℕ, List, [], ◌∷◌}
-use Rattle.storing.specs.declared.Made.{Made}
-use Rattle.storing.specs.declared.Made.TheVariants.{Stored, Refused}
+-- Documents 01 and 02 (RULES 13): the answer of a call that stores into a lent output, as a reply: 0 and the length, or the refusal.
+use Rattle.std.specs.Prelude.{ℕ, List, [], ◌∷◌, Result}
+use Rattle.code.specs.Refusals.{reply_of}
+use Rattle.code.specs.declared.Refusal.{Refusal}
 
-abbrev pub made_of : Made → List ℕ
-made_of (Stored n) = 0 ∷ n ∷ []
-made_of (Refused k) = k ∷ []
+abbrev pub made_of : Result ℕ Refusal → List ℕ
+made_of = reply_of (λ n. n ∷ [])

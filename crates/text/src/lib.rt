@@ -3,7 +3,10 @@
 
 ghost use Rattle.std.specs.Prelude.{◌≡◌, [], ◌∷◌, ◌++◌, ℕ, ◌+◌, ◌<◌, ◌≤◌, length};
 ghost use Rattle.code.specs.Listing.{decimal, record_line, last_line, stop_lines};
+ghost use Rattle.code.specs.Refusals.{refusal_reply};
 ghost use Rattle.text.specs.Within.{PutWithin, reading_line, refusal_line, closing_line, stopping_lines, oversize_line};
+
+use code::Refusal;
 
 fn decimal_length(x: u64) -> usize
     ensures { result ≡ length (decimal x) }
@@ -17,19 +20,17 @@ fn decimal_length(x: u64) -> usize
     count
 }
 
+// By hand: what `write!` stores into a lent slice no clause of the library tells (`contents` of `&mut [u8]` is none).
 pub fn put_decimal(out: &mut [u8], at: usize, x: u64) -> usize
     requires { at + 20 ≤ length out.old }
     ensures { PutWithin 20 out.old out.new at (decimal x) result }
 {
     let next = at + decimal_length(x);
     let mut rest = x;
-    let mut place = next;
-    while 10 <= rest {
-        place -= 1;
-        out[place] = 48 + (rest % 10) as u8;
+    for place in (at..next).rev() {
+        out[place] = b'0' + (rest % 10) as u8;
         rest /= 10;
     }
-    out[at] = 48 + rest as u8;
     next
 }
 
@@ -62,12 +63,12 @@ pub fn put_reading_line(
 }
 
 // The line of a record that is refused.
-pub fn put_refusal_line(out: &mut [u8], at: usize, serial: u64, refusal: u64) -> usize
-    requires { (0 < refusal) × (at + refusal_line ≤ length out.old) }
-    ensures { PutWithin refusal_line out.old out.new at (record_line serial (refusal ∷ [])) result }
+pub fn put_refusal_line(out: &mut [u8], at: usize, serial: u64, refusal: Refusal) -> usize
+    requires { at + refusal_line ≤ length out.old }
+    ensures { PutWithin refusal_line out.old out.new at (record_line serial (refusal_reply refusal)) result }
 {
     let first = put_decimal(out, at, serial);
-    let second = put_labelled(out, first, b" refused ", refusal);
+    let second = put_labelled(out, first, b" refused ", refusal.number());
     storing::put_byte(out, second, b'\n')
 }
 

@@ -16,14 +16,12 @@ use Rattle.code.proofs.LayoutCall.{read-fields-length}
 use Rattle.code.proofs.Records.{step-barred}
 use Rattle.code.proofs.Walk.{walk-taken, walk-ended, walk-stopped}
 use Rattle.reading.specs.Answers.{reading_of}
-use Rattle.reading.specs.declared.Reading.{Reading}
 use Rattle.storing.specs.Put.{Put}
 use Rattle.storing.proofs.Put.{put-none, put_then, put-length, put-pastes}
 use Rattle.dump.specs.Answers.{halt_number, halt_carries, Walkable, told_numbers, step_of}
 use Rattle.dump.specs.declared.Record as Declared
 use Rattle.dump.specs.declared.Halt.{Halt}
-use Rattle.dump.specs.declared.Step.{Step}
-use Rattle.dump.specs.declared.Step.TheVariants.{Record, End, Stop}
+use Rattle.std.proofs.Common.{Option, None, Some, Result, Ok, Err}
 use Rattle.dump.proofs.Walking.{gives-record, gives-end, gives-stop, record-ends}
 use Rattle.walking.specs.Answers.{row_told, halted_by}
 
@@ -58,10 +56,6 @@ few-left New long done h = omega arith
 more_left : (kind : Kind) (long done : ℕ) → row_length kind ≤ long - row_length kind * done → long / row_length kind - done ≡ suc (long / row_length kind - suc done)
 more_left Old long done h = omega arith
 more_left New long done h = omega arith
-
-pub row_next : (kind : Kind) (done : ℕ) → row_length kind * done < row_length kind * (done + 1)
-row_next Old done = omega arith
-row_next New done = omega arith
 
 next_row : (kind : Kind) (done : ℕ) → row_length kind * done + row_length kind ≡ row_length kind * (done + 1)
 next_row Old done = omega arith
@@ -126,17 +120,17 @@ module _ {kind : Kind} {bytes : List ℕ} {at : ℕ} {before rows : List ℕ} {n
     more : length before / row_length kind - done ≡ suc (length before / row_length kind - suc done)
     more = more_left kind (length before) done (rw w.placed at free)
 
-    module _ {s : Step} (gives : step_of s ≡ step_reply kind bytes next) where
-      pub walking-next : {r : Declared.Record} {reading : Reading} {rows' : List ℕ} {place' : ℕ} → s ≡ Record r reading →
-          Put rows rows' place (row_told kind r ++ read_fields (reading_of reading)) place' → Walking kind bytes at before rows' (r.start + r.count) (done + 1) place'
+    module _ {s : Result (Option Declared.Record) Halt} (gives : step_of s ≡ step_reply kind bytes next) where
+      pub walking-next : {r : Declared.Record} {rows' : List ℕ} {place' : ℕ} → s ≡ Ok (Some r) →
+          Put rows rows' place (row_told kind r ++ read_fields (reading_of r.outcome)) place' → Walking kind bytes at before rows' (r.start + r.count) (done + 1) place'
       unfolding rows_of closing
-      walking-next {r} {reading} {rows'} {place'} e p =
+      walking-next {r} {rows'} {place'} e p =
           let told = gives-record kind bytes next gives e in
           let q : Code.Record = told.0 in
           let turn = walk-taken kind bytes (length before / row_length kind - suc done) next q told.1 in
           let row = row_told_lem kind q r told.2 in
           let last = record-ends kind bytes next gives e in
-          let ends : place' ≡ place + row_length kind = p.ends ∙ ap (λ n. place + n) (row-many kind r (reading_of reading)) in
+          let ends : place' ≡ place + row_length kind = p.ends ∙ ap (λ n. place + n) (row-many kind r (reading_of r.outcome)) in
           let closed : closing at 0 (row_steps kind bytes at before) ≡
           closing (q.start + q.count) (suc done) (walk_from (length before / row_length kind - suc done) kind bytes (q.start + q.count)) =
           rw (more, turn) at w.closes in
@@ -144,19 +138,19 @@ module _ {kind : Kind} {bytes : List ℕ} {at : ℕ} {before rows : List ℕ} {n
             placed = ends ∙ rw w.placed (next_row kind done);
             room = omega arith;
             same = put-length p ∙ w.same;
-            filling = w.filling ++ (row_told kind r ++ read_fields (reading_of reading));
+            filling = w.filling ++ (row_told kind r ++ read_fields (reading_of r.outcome));
             stored = put_then w.stored p;
             made = rw (add-one done, append_assoc) (rw (more, turn, told.3, row, last) at w.made);
             closes = rw (add-one done, ← last) closed;
           }
 
-      pub walking-end : {reply : List ℕ} → s ≡ End → reply ≡ 0 ∷ 0 ∷ done ∷ next ∷ 1 ∷ [] → Walks kind bytes at before reply rows
+      pub walking-end : {reply : List ℕ} → s ≡ Ok None → reply ≡ 0 ∷ 0 ∷ done ∷ next ∷ 1 ∷ [] → Walks kind bytes at before reply rows
       unfolding rows_of closing
       walking-end e r =
           let turn = walk-ended kind bytes (length before / row_length kind - suc done) next (gives-end kind bytes next gives e) in
           walking-ends (rw (more, turn)) (rw (more, turn) r)
 
-      pub walking-stop : {reply : List ℕ} {halt : Halt} → s ≡ Stop halt → reply ≡ halted_by next done halt → Walks kind bytes at before reply rows
+      pub walking-stop : {reply : List ℕ} {halt : Halt} → s ≡ Err halt → reply ≡ halted_by next done halt → Walks kind bytes at before reply rows
       unfolding rows_of closing
       walking-stop {halt = halt} e r =
           let told = gives-stop kind bytes next gives e in

@@ -4,7 +4,7 @@ use Prim.Native.Nat.{ℕ, zero, suc, ◌+◌, ◌*◌, ◌-◌, ◌/◌, ◌%◌
 use native.Mathlib.Omega.{arith}
 use native.Mathlib.Numerals.{add-one}
 use native.Mathlib.Decide.{ℕ_discrete}
-use native.Mathlib.Nat.{one-mul, zero-mul, zero-add, pow-suc, mod-lt, lt_of_lt_of_le, lt_of_le_of_lt}
+use native.Mathlib.Nat.{zero-mul, zero-add, pow-suc, mod-lt, lt_of_lt_of_le, lt_of_le_of_lt}
 use lib.Bits.{bit_and, bit_or, bit_xor, and_mask, or_step, or_zero_r, xor_block, xor_self, xor_zero_r}
 use lib.Count.{ones, ones_in, count_leading_zeros, leading_top, leading_unique, ones_cat}
 use lib.Pow.{pow_pos, pow_mono, low}

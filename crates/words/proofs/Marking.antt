@@ -6,6 +6,8 @@ use native.Mathlib.Omega.{arith}
 use native.Mathlib.Nat.{mul-add, mul_assoc, mul-suc, mul-le-mul, mul-le-mul_left, mul-sub, add-mul, zero-mul, zero-add, suc-add, mod-eq_of_lt}
 use lib.Pow.{pow-add, pow_mono, high}
 use lib.ListN.{length, get_or, set, take, length-set}
+use native.Mathlib.Numerals.{add-one}
+use Rattle.std.proofs.lemmas.List.{set-get_or}
 use lib.Seq.{take_all, take-append-add}
 use Rattle.words.specs.Words.{groups_of, all_groups, word_bytes, word_groups, front_groups, groups_at, all_at, front_at}
 use Rattle.words.specs.Marks.{Marked, bare, skip, mark, Marks, AllMarks, lows, word_lows, Ends, Fronted}
@@ -64,7 +66,7 @@ pub record Marking (m i : ℕ) (os : List ℕ) : Type 0 where
   pub marks : AllMarks m i os
   pub held : (ws : List ℕ) → length ws ≡ 16 → front_at m i os ws ≡ front_groups m i ws
 
-pub marking-none : (m : ℕ) (os : List ℕ) → length os ≡ 16 → Marking m 0 os
+marking-none : (m : ℕ) (os : List ℕ) → length os ≡ 16 → Marking m 0 os
 unfolding all_groups all_at
 marking-none m os l = record { long = l; marks = λ j k. absurd (omega arith); held = λ ws k. refl }
 
@@ -94,7 +96,7 @@ module _ {m n h : ℕ} (E : Ends m n h) where
       (rw (← f.0, mul_assoc m (word_groups m) n) a, c, omega (arith, f, over-is, b, mul-suc m (behind m n h)))
 
 module _ {m i : ℕ} {os : List ℕ} (hm : 2 ≤ m) (lm : m ≤ 4) (C : Marking m i os) (few : i < 16) where
-  pub marking-more : Marking m (i + 1) (set os i (word_lows m))
+  marking-more : Marking m (i + 1) (set os i (word_lows m))
   marking-more =
       let k = leading-all m (omega arith) (word_groups m) in
       record {
@@ -107,6 +109,15 @@ module _ {m i : ℕ} {os : List ℕ} (hm : 2 ≤ m) (lm : m ≤ 4) (C : Marking 
             (k.held w ∙ take_all (word_groups m) (groups_of m (word_groups m) w) (omega (arith, groups-long m (word_groups m) w)))
             ∙ sym (front-more m i ws (omega arith));
       }
+
+-- all that are set to all marks are marked
+pub marking-filled : {m : ℕ} → 2 ≤ m → m ≤ 4 → (i : ℕ) (os : List ℕ) → length os ≡ 16 → i ≤ 16 → ((j : ℕ) → j < i → get_or os j 0 ≡ word_lows m)
+    → Marking m i os
+marking-filled hm lm zero os l few same = marking-none _ os l
+marking-filled {m} hm lm (suc i) os l few same =
+    let C = marking-filled hm lm i os l (omega arith) (λ j h. same j (omega arith)) in
+    let e : set os i (word_lows m) ≡ os = ap (λ x. set os i x) (sym (same i (omega arith))) ∙ set-get_or os i 0 in
+    rw (e, add-one i) at (marking-more hm lm C (omega arith))
 
 -- the last word has marks of its first groups alone
 pub marking-last : {m n h : ℕ} {os : List ℕ} {i : ℕ} → Ends m n h → Marking m i os → n ≡ i + 1

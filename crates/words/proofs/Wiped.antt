@@ -8,14 +8,14 @@ use native.Mathlib.Decide.{ℕ_discrete}
 use native.Mathlib.Nat.{zero-add, zero-mul}
 use lib.Bits.{bit_and, and_zero_l, and_zero_r, and_self, and_block}
 use lib.Dec.{eqb}
-use lib.ListN.{length, get_or}
+use lib.ListN.{length}
+use Rattle.std.specs.List.{list_all, zip}
 use lib.Pow.{pow_pos}
 use borrow.Author.Tests.{eq-eqb, ne_eqb}
 use Rattle.code.specs.Judge.{wipes}
-use Rattle.words.specs.Words.{word_groups, groups_of, all_groups, front_groups}
+use Rattle.words.specs.Words.{word_groups, groups_of, all_groups}
 use Rattle.words.specs.Marks.{marks_of, word_marks, nonzero_group, open_group}
 use Rattle.words.proofs.Masks.{groups-long, marks-lt}
-use Rattle.words.proofs.Front.{front-more, front_long}
 
 -- one field behind another
 and-twice : (a b c : Bool) → (a && (b && c)) ≡ ((a && b) && c)
@@ -73,20 +73,19 @@ marks-wiped m e (suc x ∷ xs) (y ∷ ys) pos l = elim (ℕ_discrete y e) [
     some : eqb (suc x) 0 ≡ false
     some = ne_eqb (suc x) 0 (λ z. absurd (omega arith))
 
--- the words up to one are looked at
-pub wiped-none : (m : ℕ) (before after : List ℕ) → true ≡ wipes (2 ^ m - 1) (front_groups m 0 before) (front_groups m 0 after)
-unfolding all_groups wipes
-wiped-none m before after = refl
+-- no mark is set in both of two words
+abbrev pub word_wiped : ℕ → ℕ × ℕ → Bool
+word_wiped m p = eqb (bit_and (word_marks m nonzero_group p.0) (word_marks m (open_group (2 ^ m - 1)) p.1)) 0
 
-pub wiped-more : (m i : ℕ) (before after : List ℕ) (all : Bool) (a b : ℕ) → 0 < m → i < length before → i < length after →
-    all ≡ wipes (2 ^ m - 1) (front_groups m i before) (front_groups m i after) →
-    a ≡ word_marks m nonzero_group (get_or before i 0) → b ≡ word_marks m (open_group (2 ^ m - 1)) (get_or after i 0) →
-    (all && eqb (bit_and a b) 0) ≡ wipes (2 ^ m - 1) (front_groups m (i + 1) before) (front_groups m (i + 1) after)
-wiped-more m i before after all a b pos l k q qa qb =
+pub words-wiped : (m : ℕ) (before after : List ℕ) → 0 < m → length before ≡ length after →
+    list_all (word_wiped m) (zip before after) ≡ wipes (2 ^ m - 1) (all_groups m (word_groups m) before) (all_groups m (word_groups m) after)
+unfolding all_groups wipes
+words-wiped m [] [] pos l = refl
+words-wiped m [] (a ∷ after) pos l = absurd (omega arith)
+words-wiped m (b ∷ before) [] pos l = absurd (omega arith)
+words-wiped m (b ∷ before) (a ∷ after) pos l =
     let e : ℕ = 2 ^ m - 1 in
-    let xs = groups_of m (word_groups m) (get_or before i 0) in
-    let ys = groups_of m (word_groups m) (get_or after i 0) in
-    let word : eqb (bit_and a b) 0 ≡ wipes e xs ys =
-    rw (qa, qb) (marks-wiped m e xs ys pos (groups-long m (word_groups m) (get_or before i 0) ∙ sym (groups-long m (word_groups m) (get_or after i 0)))) in
-    let long = front_long m i before (omega arith) ∙ sym (front_long m i after (omega arith)) in
-    rw (front-more m i before l, front-more m i after k, q, word) (sym (wipes-append e (front_groups m i before) (front_groups m i after) xs ys long))
+    let n : ℕ = word_groups m in
+    let long = groups-long m n b ∙ sym (groups-long m n a) in
+    rw (marks-wiped m e (groups_of m n b) (groups_of m n a) pos long, words-wiped m before after pos (omega arith))
+    (sym (wipes-append e (groups_of m n b) (groups_of m n a) (all_groups m n before) (all_groups m n after) long))

@@ -1,6 +1,6 @@
 -- Document 01, "Cells in bytes" (RULES 3): groups of m bits in words. A word holds n groups, the leftmost in its highest bits; its lowest bit is the last bit
 -- of its last group.
-use Rattle.std.specs.Prelude.{ℕ, zero, suc, ◌+◌, ◌*◌, ◌^◌, ◌/◌, ◌%◌, ◌<◌, cond, List, [], ◌∷◌, ◌++◌, eqb, get_or, take}
+use Rattle.std.specs.Prelude.{ℕ, zero, suc, ◌*◌, ◌^◌, ◌/◌, ◌%◌, ◌<◌, cond, List, [], ◌∷◌, ◌++◌, eqb, get_or, take}
 
 -- the last n groups of a word, leftmost first
 unfoldable pub groups_of : ℕ → ℕ → ℕ → List ℕ

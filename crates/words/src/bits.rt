@@ -4,8 +4,10 @@ ghost use Rattle.std.specs.Int.Count as Count;
 ghost use Rattle.words.specs.Words as Words;
 ghost use Rattle.words.specs.Marks as Marks;
 
+use binary::low_ones;
+
 // All marks of a word: the lowest bit of each group.
-pub fn low_bits(m: usize) -> u64
+fn low_bits(m: usize) -> u64
     requires { (2 ≤ m) × (m ≤ 4) }
     ensures { result ≡ Marks.word_lows m }
 {
@@ -18,37 +20,65 @@ pub fn low_bits(m: usize) -> u64
     0x1111_1111_1111_1111
 }
 
-// The marks of the groups that are not zero.
-pub fn nonzero(m: usize, low: u64, w: u64) -> u64
-    requires { (2 ≤ m) × (m ≤ 4) × (low ≡ Marks.word_lows m) }
-    ensures { result ≡ Marks.word_marks m Marks.nonzero_group w }
-{
-    let x = w | (w >> 1);
-    (x | (x >> (m - 2))) & low
+// Groups of m bits in a word, with all their marks and with the group of all ones.
+#[derive(Clone, Copy)]
+pub struct Groups {
+    pub m: usize,
+    pub low: u64,
+    pub ones: u64,
+    ghost sized: { (2 ≤ m) × (m ≤ 4) },
+    ghost marked: { low ≡ Marks.word_lows m },
+    ghost filled: { ones ≡ 2 ^ m - 1 },
 }
 
-// The marks of the groups of all ones.
-pub fn erased(m: usize, low: u64, w: u64) -> u64
-    requires { (2 ≤ m) × (m ≤ 4) × (low ≡ Marks.word_lows m) }
-    ensures { result ≡ Marks.word_marks m (Marks.erased_group (2 ^ m - 1)) w }
-{
-    let x = w & (w >> 1);
-    (x & (x >> (m - 2))) & low
-}
+impl Groups {
+    pub fn of(m: usize) -> Groups
+        requires { (2 ≤ m) × (m ≤ 4) }
+        ensures { result.m ≡ m }
+    {
+        Groups {
+            m,
+            low: low_bits(m),
+            ones: low_ones(m),
+        }
+    }
 
-// The marks of the groups that are zero, and of those that are not all ones.
-pub fn zero_marks(m: usize, low: u64, w: u64) -> u64
-    requires { (2 ≤ m) × (m ≤ 4) × (low ≡ Marks.word_lows m) }
-    ensures { result ≡ Marks.word_marks m Marks.zero_group w }
-{
-    low - nonzero(m, low, w)
-}
+    // The marks of the groups that are not zero.
+    pub fn nonzero(self, w: u64) -> u64
+        ensures { result ≡ Marks.word_marks self.m Marks.nonzero_group w }
+    {
+        let x = w | (w >> 1);
+        (x | (x >> (self.m - 2))) & self.low
+    }
 
-pub fn open_marks(m: usize, low: u64, w: u64) -> u64
-    requires { (2 ≤ m) × (m ≤ 4) × (low ≡ Marks.word_lows m) }
-    ensures { result ≡ Marks.word_marks m (Marks.open_group (2 ^ m - 1)) w }
-{
-    low - erased(m, low, w)
+    // The marks of the groups of all ones.
+    pub fn erased(self, w: u64) -> u64
+        ensures { result ≡ Marks.word_marks self.m (Marks.erased_group (2 ^ self.m - 1)) w }
+    {
+        let x = w & (w >> 1);
+        (x & (x >> (self.m - 2))) & self.low
+    }
+
+    // The marks of the groups that are zero, and of those that are not all ones.
+    pub fn zeros(self, w: u64) -> u64
+        ensures { result ≡ Marks.word_marks self.m Marks.zero_group w }
+    {
+        self.low - self.nonzero(w)
+    }
+
+    pub fn open(self, w: u64) -> u64
+        ensures { result ≡ Marks.word_marks self.m (Marks.open_group (2 ^ self.m - 1)) w }
+    {
+        self.low - self.erased(w)
+    }
+
+    // The group whose mark stands at place p.
+    pub fn at(self, w: u64, p: u32) -> u64
+        requires { p < 64 }
+        ensures { (result ≡ w / 2 ^ p % 2 ^ self.m) × (result < 16) }
+    {
+        (w >> p) & self.ones
+    }
 }
 
 // The bits of a word.
@@ -56,14 +86,6 @@ pub fn word_bits(m: usize) -> usize
     ensures { result ≡ 8 * Words.word_bytes m }
 {
     if m == 3 { 48 } else { 64 }
-}
-
-// The group whose mark stands at place p.
-pub fn group_at(w: u64, p: u32, m: usize, e: u64) -> u64
-    requires { (m ≤ 4) × (e ≡ 2 ^ m - 1) × (p < 64) }
-    ensures { (result ≡ w / 2 ^ p % 2 ^ m) × (result < 16) }
-{
-    (w >> p) & e
 }
 
 // The word with x in its zero group whose mark stands at place p.
@@ -104,10 +126,8 @@ pub fn skip(x: u64, count: u64) -> u64
     ensures { result ≡ Marks.stripped count x }
 {
     let mut left = x;
-    let mut i: u64 = 0;
-    while i < count {
+    for _ in 0..count {
         left = left ^ (1 << top_odd(left));
-        i += 1;
     }
     left
 }

@@ -15,10 +15,7 @@ ghost use Rattle.words.specs.Words as Words;
 ghost use Rattle.words.specs.Marks as Marks;
 
 use binary::{low_ones, ones, wide};
-use bits::{
-    erased, group_at, low_bits, nonzero, open_marks, put, skip, strip, top, top_odd, word_bits,
-    zero_marks,
-};
+use bits::{Groups, put, skip, strip, top, top_odd, word_bits};
 use code::PATTERN_MOST;
 
 #[derive(Clone, Copy)]
@@ -32,17 +29,15 @@ pub fn see(words: &[u64; 16], n: usize, m: usize, marks: &mut [u64; 16]) -> Seen
     requires { (2 ≤ m) × (m ≤ 4) × (n ≤ 16) × (length words.now ≡ 16) × (length marks.old ≡ 16) }
     ensures { Marks.Viewed m n words.now marks.new result }
 {
-    let low = low_bits(m);
+    let groups = Groups::of(m);
     let mut zeros: u64 = 0;
     let mut unerased: u64 = 0;
-    let mut i = 0;
-    while i < n {
+    for i in 0..n {
         let w = words[i];
-        let o = open_marks(m, low, w);
+        let o = groups.open(w);
         marks[i] = o;
-        zeros += ones(zero_marks(m, low, w));
+        zeros += ones(groups.zeros(w));
         unerased += ones(o);
-        i += 1;
     }
     Seen { zeros, unerased }
 }
@@ -52,29 +47,32 @@ pub fn mark_all(n: usize, m: usize, h: usize, marks: &mut [u64; 16])
     requires { Marks.Ends m n h × (length marks.old ≡ 16) }
     ensures { Marks.Fronted m n h marks.new }
 {
-    let low = low_bits(m);
+    let low = Groups::of(m).low;
     let last = n - 1;
-    let mut i = 0;
-    while i < last {
-        marks[i] = low;
-        i += 1;
-    }
+    marks[..last].fill(low);
     let over = word_bits(m) * n - m * h;
-    marks[i] = (low >> over) << over;
+    marks[last] = (low >> over) << over;
+}
+
+// A word and the marks of some of its groups.
+#[derive(Clone, Copy)]
+struct Marked {
+    word: u64,
+    marks: u64,
 }
 
 // Adds the marked groups of a word to the values before `at`, leftmost first.
-fn pick_word(w: u64, marks: u64, m: usize, values: &mut [u8; PATTERN_MOST], at: usize) -> usize
-    requires le_m { (2 ≤ m) × (m ≤ 4) × Marks.Marks m marks }
-    requires values_len { (length values.old ≡ pattern_most) × (at + length (Words.groups_at m (Words.word_groups m) marks w) ≤ pattern_most) }
-    ensures { Marks.Added (Words.groups_at m (Words.word_groups m) marks w) values.old values.new at result }
+fn pick_word(groups: Groups, w: Marked, values: &mut [u8; PATTERN_MOST], at: usize) -> usize
+    requires marks { Marks.Marks groups.m w.marks }
+    requires values_len { (length values.old ≡ pattern_most)
+        × (at + length (Words.groups_at groups.m (Words.word_groups groups.m) w.marks w.word) ≤ pattern_most) }
+    ensures { Marks.Added (Words.groups_at groups.m (Words.word_groups groups.m) w.marks w.word) values.old values.new at result }
 {
-    let e = low_ones(m);
-    let mut left = marks;
+    let mut left = w.marks;
     let mut i = at;
     while left != 0 {
         let p = top(left);
-        values[i] = group_at(w, p, m, e) as u8;
+        values[i] = groups.at(w.word, p) as u8;
         left = strip(left, p);
         i += 1;
     }
@@ -93,39 +91,44 @@ pub fn pick(
     requires values_len { length values.old ≡ pattern_most }
     ensures { Marks.ListedValues (Words.front_at m n marks.now words.now) values.new result }
 {
+    let groups = Groups::of(m);
     let mut k = 0;
-    let mut i = 0;
-    while i < n {
-        k = pick_word(words[i], marks[i], m, values, k);
-        i += 1;
+    for (w, o) in words[..n].iter().zip(&marks[..n]) {
+        k = pick_word(
+            groups,
+            Marked {
+                word: *w,
+                marks: *o,
+            },
+            values,
+            k,
+        );
     }
     k
 }
 
 // Adds labels and values less 1 of a word's marked groups that are not zero, with so many places to its right.
 fn gather_word(
-    w: u64,
-    marks: u64,
-    m: usize,
-    low: u64,
+    groups: Groups,
+    w: Marked,
     right: u64,
     labels: &mut [u8; PATTERN_MOST],
     values: &mut [u8; PATTERN_MOST],
     at: usize,
 ) -> usize
-    requires le_m { (2 ≤ m) × (m ≤ 4) × (low ≡ Marks.word_lows m) × Marks.Leftover m w marks right (Marks.written_marks m marks w) }
-    requires w_bound { (at + Count.ones (Marks.written_marks m marks w) ≤ pattern_most) × (length labels.old ≡ pattern_most) × (length values.old ≡ pattern_most) }
-    ensures added { Marks.Added (Marks.written_labels m w marks right) labels.old labels.new at result }
-    ensures added_2 { Marks.Added (Marks.written_less m w marks) values.old values.new at result }
+    requires leftover { Marks.Leftover groups.m w.word w.marks right (Marks.written_marks groups.m w.marks w.word) }
+    requires w_bound { (at + Count.ones (Marks.written_marks groups.m w.marks w.word) ≤ pattern_most)
+        × (length labels.old ≡ pattern_most) × (length values.old ≡ pattern_most) }
+    ensures added { Marks.Added (Marks.written_labels groups.m w.word w.marks right) labels.old labels.new at result }
+    ensures added_2 { Marks.Added (Marks.written_less groups.m w.word w.marks) values.old values.new at result }
 {
-    let e = low_ones(m);
-    let mut left = nonzero(m, low, w) & marks;
+    let mut left = groups.nonzero(w.word) & w.marks;
     let mut i = at;
     while left != 0 {
         let p = top(left);
         let below = low_ones(p as usize);
-        labels[i] = (right + ones(marks & below)) as u8;
-        values[i] = (group_at(w, p, m, e) - 1) as u8;
+        labels[i] = (right + ones(w.marks & below)) as u8;
+        values[i] = (groups.at(w.word, p) - 1) as u8;
         left = left & below;
         i += 1;
     }
@@ -158,15 +161,16 @@ pub fn gather(
     requires labels_len { (length labels.old ≡ pattern_most) × (length values.old ≡ pattern_most) }
     ensures { Marks.Gathered (Words.front_at m n marks.now words.now) labels.new values.new result }
 {
-    let low = low_bits(m);
+    let groups = Groups::of(m);
     let mut right = places;
     let mut k = 0;
-    let mut i = 0;
-    while i < n {
-        let o = marks[i];
-        right = places_behind(right, o, i, n);
-        k = gather_word(words[i], o, m, low, right, labels, values, k);
-        i += 1;
+    for i in 0..n {
+        let w = Marked {
+            word: words[i],
+            marks: marks[i],
+        };
+        right = places_behind(right, w.marks, i, n);
+        k = gather_word(groups, w, right, labels, values, k);
     }
     k
 }
@@ -203,17 +207,14 @@ pub fn erase(words: &mut [u64; 16], n: usize, m: usize, spare: u64, marks: &mut 
     requires { (2 ≤ m) × (m ≤ 4) × (n ≤ 16) × (length words.old ≡ 16) × (length marks.old ≡ 16) }
     ensures { Marks.Erased m n spare words.old words.new marks.new }
 {
-    let low = low_bits(m);
-    let e = low_ones(m);
+    let groups = Groups::of(m);
     let mut left = spare;
-    let mut i = 0;
-    while i < n {
-        let s = take_spare(zero_marks(m, low, words[i]), left);
+    for i in 0..n {
+        let s = take_spare(groups.zeros(words[i]), left);
         let o = s.left;
-        words[i] = (low - o) * e;
+        words[i] = (groups.low - o) * groups.ones;
         marks[i] = o;
         left = s.spare;
-        i += 1;
     }
 }
 
@@ -225,13 +226,13 @@ struct Placed {
 }
 
 // Lays the values from `at` on into all zero groups of a word.
-fn lay_all(w: u64, marks: u64, m: usize, values: &[u8; PATTERN_MOST], at: usize) -> Placed
-    requires blanks { Marks.Blanks m w marks × (length values.now ≡ pattern_most) × (at + Marks.blanks_in m w ≤ pattern_most) }
-    requires upto { Lists.Upto (2 ^ m - 1) (take (Marks.blanks_in m w) (drop at values.now)) }
-    ensures { Marks.WordLaid m w (take (Marks.blanks_in m w) (drop at values.now)) result.word × (result.at ≡ at + Marks.blanks_in m w) }
+fn lay_all(w: Marked, m: usize, values: &[u8; PATTERN_MOST], at: usize) -> Placed
+    requires blanks { Marks.Blanks m w.word w.marks × (length values.now ≡ pattern_most) × (at + Marks.blanks_in m w.word ≤ pattern_most) }
+    requires upto { Lists.Upto (2 ^ m - 1) (take (Marks.blanks_in m w.word) (drop at values.now)) }
+    ensures { Marks.WordLaid m w.word (take (Marks.blanks_in m w.word) (drop at values.now)) result.word × (result.at ≡ at + Marks.blanks_in m w.word) }
 {
-    let mut word = w;
-    let mut left = marks;
+    let mut word = w.word;
+    let mut left = w.marks;
     let mut i = at;
     while left != 0 {
         let p = top(left);
@@ -255,49 +256,47 @@ pub fn lay_digits(
     ensures { Marks.Layered m n (take (Marks.blanks_to m n words.old) values.now) words.old words.new }
 {
     let mut at = 0;
-    let mut i = 0;
-    while i < n {
-        let l = lay_all(words[i], marks[i], m, values, at);
+    for i in 0..n {
+        let w = Marked {
+            word: words[i],
+            marks: marks[i],
+        };
+        let l = lay_all(w, m, values, at);
         words[i] = l.word;
         at = l.at;
-        i += 1;
     }
 }
 
-// Lays the written places from `at` on whose labels are from `right` to `next` into a word.
-fn lay_some(
-    w: u64,
-    marks: u64,
-    m: usize,
-    right: u64,
-    next: u64,
-    labels: &[u8; PATTERN_MOST],
-    values: &[u8; PATTERN_MOST],
-    at: usize,
+// The written places of a pattern by label and value less 1, and how many they are.
+#[derive(Clone, Copy)]
+struct Written<'a> {
+    labels: &'a [u8; PATTERN_MOST],
+    values: &'a [u8; PATTERN_MOST],
     k: usize,
-) -> Placed
-    requires blanks { Marks.Blanks m w marks × (next ≡ right + Marks.blanks_in m w) × (at ≤ k) × (k ≤ pattern_most) }
-    requires labels_len { (length labels.now ≡ pattern_most) × (length values.now ≡ pattern_most) }
-    requires remaining { Marks.Remaining m labels.now values.now k at next (Marks.rest_of labels.now values.now k at next) }
-    ensures { Marks.Scattered m w right labels.now values.now k at next result.word result.at }
+}
+
+// Lays the written places from `at` on whose labels are from `right` to `next` into a word.
+fn lay_some(w: Marked, m: usize, right: u64, next: u64, p: Written, at: usize) -> Placed
+    requires blanks { Marks.Blanks m w.word w.marks × (next ≡ right + Marks.blanks_in m w.word) × (at ≤ p.k) × (p.k ≤ pattern_most) }
+    requires labels_len { (length p.labels.now ≡ pattern_most) × (length p.values.now ≡ pattern_most) }
+    requires remaining { Marks.Remaining m p.labels.now p.values.now p.k at next (Marks.rest_of p.labels.now p.values.now p.k at next) }
+    ensures { Marks.Scattered m w.word right p.entry.labels.now p.entry.values.now p.entry.k at next result.word result.at }
 {
-    let mut word = w;
-    let mut left = marks;
+    let mut word = w.word;
+    let mut left = w.marks;
     let mut from = next;
-    let mut i = at;
-    while i < k {
-        let label = wide(labels[i]);
+    for i in at..p.k {
+        let label = wide(p.labels[i]);
         if label < right {
             return Placed { word, at: i };
         }
         left = skip(left, from - 1 - label);
-        let p = top_odd(left);
-        word = put(word, p, wide(values[i]) + 1);
-        left = strip(left, p);
+        let place = top_odd(left);
+        word = put(word, place, wide(p.values[i]) + 1);
+        left = strip(left, place);
         from = label;
-        i += 1;
     }
-    Placed { word, at: i }
+    Placed { word, at: p.k }
 }
 
 // Lays a pattern of s places, given by the labels and values less 1 of its k written ones, into the zero groups of the first n words.
@@ -317,17 +316,22 @@ pub fn lay(
     requires upto { Lists.Upto (2 ^ m - 1) (Marks.pattern_of s labels.now values.now k) }
     ensures { Marks.Layered m n (Marks.pattern_of s labels.now values.now k) words.old words.new }
 {
+    let p = Written { labels, values, k };
     let mut next = s;
     let mut at = 0;
-    let mut i = 0;
-    while at < k {
-        let o = marks[i];
-        let right = next - ones(o);
-        let l = lay_some(words[i], o, m, right, next, labels, values, at, k);
+    for i in 0..n {
+        if k <= at {
+            return;
+        }
+        let w = Marked {
+            word: words[i],
+            marks: marks[i],
+        };
+        let right = next - ones(w.marks);
+        let l = lay_some(w, m, right, next, p, at);
         words[i] = l.word;
         at = l.at;
         next = right;
-        i += 1;
     }
 }
 
@@ -336,15 +340,11 @@ pub fn is_wiped(before: &[u64; 16], after: &[u64; 16], n: usize, m: usize) -> bo
     requires { (2 ≤ m) × (m ≤ 4) × (n ≤ 16) × (length before.now ≡ 16) × (length after.now ≡ 16) }
     ensures { result ≡ wipes (2 ^ m - 1) (Words.front_groups m n before.now) (Words.front_groups m n after.now) }
 {
-    let low = low_bits(m);
-    let mut all = true;
-    let mut i = 0;
-    while i < n {
-        let both = nonzero(m, low, before[i]) & open_marks(m, low, after[i]);
-        all = all & (both == 0);
-        i += 1;
-    }
-    all
+    let groups = Groups::of(m);
+    before[..n]
+        .iter()
+        .zip(&after[..n])
+        .all(|(b, a)| groups.nonzero(*b) & groups.open(*a) == 0)
 }
 
 // A mark for each group of a word that is all ones now and was not before.
@@ -352,6 +352,6 @@ pub fn fresh_marks(before: u64, after: u64, m: usize) -> u64
     requires { (2 ≤ m) × (m ≤ 4) }
     ensures { Marks.groups_in m result ≡ freshly (2 ^ m - 1) (Marks.groups_in m before) (Marks.groups_in m after) }
 {
-    let low = low_bits(m);
-    open_marks(m, low, before) & erased(m, low, after)
+    let groups = Groups::of(m);
+    groups.open(before) & groups.erased(after)
 }

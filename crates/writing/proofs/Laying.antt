@@ -9,11 +9,10 @@ use Rattle.code.specs.Shape.{first_of, ranges_of, counts_of, width_of, code_of}
 use Rattle.code.specs.Lists.{Upto}
 use Rattle.code.specs.Count.{fewer}
 use Rattle.code.specs.Deal.{deal, plainly}
-use Rattle.code.specs.declared.Dealing.{Dealing}
 use Rattle.code.specs.declared.Dealing.TheVariants.{Patterns, Digits}
 use Rattle.code.specs.declared.Generation.{Generation}
 use Rattle.code.proofs.Chosen.{pattern_most}
-use Rattle.code.specs.Code.{dealt, generation_at, pattern, room}
+use Rattle.code.specs.Code.{generation_at, pattern, room}
 use Rattle.counting.specs.Cap.{cap}
 use Rattle.code.specs.Field as Field
 use Rattle.code.proofs.Groups.{erase}

@@ -1,9 +1,10 @@
 -- The replies of write and the cells that it leaves, from what its calls have found.
+use Rattle.std.proofs.Common.{Ok, Err}
 use mathlib.Core.Path.{◌≡◌, refl, sym, ◌∙◌}
 use mathlib.Core.Logic.{◌≢◌}
 use mathlib.Core.Bool.{Bool, true, false, true≢false, not}
 use mathlib.Core.List.{List, [], ◌∷◌}
-use Prim.Native.Nat.{ℕ, zero, suc, ◌+◌, ◌-◌, ◌^◌, ◌≤◌, ◌<◌}
+use Prim.Native.Nat.{ℕ, zero, suc, ◌+◌, ◌≤◌, ◌<◌}
 use native.Mathlib.Omega.{arith}
 use native.Mathlib.Decide.{ℕ_discrete}
 use native.Mathlib.Numerals.{add-one}
@@ -11,7 +12,10 @@ use lib.Arith.{lt_of_le-ne}
 use lib.ListN.{length, get_or}
 use borrow.Author.Tests.{not-true, eq-eqb, ne_eqb}
 use Rattle.code.specs.declared.Shape.{Shape}
-use Rattle.code.specs.Shape.{first_of, ranges_of, order_of, counts_of, width_of, code_of}
+use Rattle.code.specs.declared.Refusal.{Refusal}
+use Rattle.code.specs.declared.Refusal.TheVariants.{Spent, Miscounted, Beyond}
+use Rattle.code.specs.Refusals.{refusal_reply, number_of}
+use Rattle.code.specs.Shape.{ranges_of, order_of, counts_of, width_of, code_of}
 use Rattle.code.specs.Cells.{sound}
 use Rattle.code.specs.declared.Generation.{Generation}
 use Rattle.code.specs.Code.{generation_at}
@@ -24,11 +28,8 @@ use Rattle.code.proofs.WriteCall.{Refuses, write-no-layout, write-unsound, write
 use Rattle.cells.specs.Cells.{Storable, Stored}
 use Rattle.cells.proofs.Sizes.{storable}
 use Rattle.layout.specs.Plan.{Granted}
-use Rattle.layout.proofs.Planning.{plan-refused}
-use Rattle.writing.specs.declared.Aim.TheVariants.{At, Refused}
-use Rattle.reading.specs.Answers.{refusal_of, read_in, SoundCells, held_groups, field_groups, Looked}
-use Rattle.reading.specs.declared.Refusal.{Refusal}
-use Rattle.reading.specs.declared.Refusal.TheVariants.{Plain, Miscounted, Beyond}
+use Rattle.layout.proofs.Planning.{laid-number, laid-alone}
+use Rattle.reading.specs.Answers.{read_in, SoundCells, held_groups, field_groups, Looked}
 use Rattle.writing.specs.declared.Held.{Held}
 use Rattle.writing.specs.Answers.{aim_at, after_in, laid_by, wits_of, Due, Takes}
 use Rattle.reading.proofs.Looking.{sound-width, loadable, width}
@@ -41,8 +42,10 @@ Answers s x bs reply after = (reply ≡ write_reply s x bs) × (after ≡ write_
 refuses : (s : Shape) (x : ℕ) (bs reply : List ℕ) → Refuses s x bs reply → Answers s x bs reply bs
 refuses s x bs reply w = (sym w.0, sym w.1)
 
-pub writes-refused : (s : Shape) (x : ℕ) (bs : List ℕ) {k : ℕ} {h : List ℕ} → k ∷ h ≡ filled layout_fields (layout_reply s 256) → k ≢ 0 → Answers s x bs (k ∷ []) bs
-writes-refused s x bs {k} right d = refuses s x bs (k ∷ []) (write-no-layout s x bs k (plan-refused s right (lt_of_le-ne (omega arith) (λ z. d (sym z)))))
+pub writes-refused : (s : Shape) (x : ℕ) (bs : List ℕ) (k : Refusal) {h : List ℕ} → number_of k ∷ h ≡ filled layout_fields (layout_reply s 256) →
+    Answers s x bs (refusal_reply k) bs
+writes-refused s x bs k right =
+    rw (laid-alone s 256 k right) (refuses s x bs (number_of k ∷ []) (write-no-layout s x bs (number_of k) (laid-number s 256 k right)))
 
 -- the place i that a reading r aims at: no refusal is left to it but that of the range there
 pub record Aimed (s : Shape) (r : Field.Reading) (i : ℕ) : Type 0 where
@@ -58,7 +61,7 @@ pub record Place (s : Shape) (x : ℕ) (gs : List ℕ) (i z : ℕ) : Type 0 wher
   pub made : Field.write (code_of s) x gs ≡ Field.wrote (suc i) (after_in s i x gs)
 
 module _ {s : Shape} {h : List ℕ} (G : Granted s h) (gs : List ℕ) (i : ℕ) where
-  aimed : (r : Field.Reading) → read_in s gs ≡ r → At i ≡ aim_at s.t r → Aimed s r i
+  aimed : (r : Field.Reading) → read_in s gs ≡ r → Ok i ≡ aim_at s.t r → Aimed s r i
   unfolding miscounts exceeds spent taker
   aimed Field.blank reading q =
       let first : i ≡ 0 = cc in
@@ -107,18 +110,18 @@ module _ {s : Shape} {h : List ℕ} (G : Granted s h) (x : ℕ) (bs : List ℕ) 
       unfolding field_read read_cells width_of
       field-reads = rw K.same at (sym K.read)
 
-      pub aims : (i : ℕ) → At i ≡ aim_at s.t r → Aimed s r i
+      pub aims : (i : ℕ) → Ok i ≡ aim_at s.t r → Aimed s r i
       aims i q = aimed G (field_groups s n words) i r (sym K.read) q
 
-      pub writes-not : (k : Refusal) → Refused k ≡ aim_at s.t r → Answers s x bs (refusal_of k) bs
+      pub writes-not : (k : Refusal) → Err k ≡ aim_at s.t r → Answers s x bs (refusal_reply k) bs
       writes-not k q = go r field-reads q
         where
-          go : (r : Field.Reading) → field_read s bs ≡ r → Refused k ≡ aim_at s.t r → Answers s x bs (refusal_of k) bs
+          go : (r : Field.Reading) → field_read s bs ≡ r → Err k ≡ aim_at s.t r → Answers s x bs (refusal_reply k) bs
           go Field.blank e q = clash (cc)
           go (Field.reads i y) e q = elim (ℕ_discrete i s.t) [
             | yes t ↦
                 let q' = rw (eq-eqb i s.t t) at q in
-                let five : k ≡ Plain 5 = cc in
+                let five : k ≡ Spent = cc in
                 rw five (refuses s x bs (5 ∷ []) (write-spent s x bs G.ok sure l i y e t))
             | no d ↦ let q' = rw (ne_eqb i s.t d) at q in clash (cc)
           ]

@@ -1,5 +1,5 @@
 -- Document 01, "Writing", and document 02, §7 (RULES 6): the answers of write as replies, and what the functions between them cite.
-use Rattle.std.specs.Prelude.{ℕ, ◌+◌, ◌-◌, ◌^◌, ◌<◌, ◌≤◌, ◌≡◌, cond, List, [], ◌∷◌, ◌++◌, eqb, length, get_or}
+use Rattle.std.specs.Prelude.{ℕ, ◌+◌, ◌-◌, ◌^◌, ◌<◌, ◌≤◌, ◌≡◌, cond, List, [], ◌∷◌, ◌++◌, eqb, length, get_or, Result, Ok, Err}
 use Rattle.code.specs.declared.Shape.{Shape}
 use Rattle.code.specs.Shape.{counts_of, code_of}
 use Rattle.code.specs.declared.Generation.{Generation}
@@ -11,29 +11,27 @@ use Rattle.code.specs.Deal.{written}
 use Rattle.code.specs.Field as Field
 use Rattle.code.proofs.Groups.{erase}
 use Rattle.words.specs.Words.{front_groups}
-use Rattle.reading.specs.declared.Refusal.TheVariants.{Plain, Miscounted, Beyond}
-use Rattle.reading.specs.Answers.{refusal_of, held_groups, Holds}
+use Rattle.code.specs.declared.Refusal.{Refusal}
+use Rattle.code.specs.declared.Refusal.TheVariants.{Spent, Miscounted, Beyond}
+use Rattle.code.specs.Refusals.{reply_of}
+use Rattle.reading.specs.Answers.{held_groups, Holds}
 use Rattle.writing.specs.declared.Held.{Held}
 use Rattle.writing.specs.declared.WriteFields.{WriteFields}
-use Rattle.writing.specs.declared.Writing.{Writing}
-use Rattle.writing.specs.declared.Writing.TheVariants.{Written, Refused}
-use Rattle.writing.specs.declared.Aim.{Aim}
-use Rattle.writing.specs.declared.Aim.TheVariants.{At, Refused as NotAt}
+use Rattle.writing.specs.declared.Written.{Written}
 
--- 01, Where each language form belongs; RULES 13: an enum answer as numbers: 0 and the values, or the refusal
-abbrev pub writing_of : Writing → List ℕ
-writing_of (Written generation turned) = 0 ∷ generation ∷ turned ∷ []
-writing_of (Refused k) = refusal_of k
+-- 01, Where each language form belongs; RULES 13: a write as a reply: 0 and the values, or the refusal
+abbrev pub writing_of : Result Written Refusal → List ℕ
+writing_of r = reply_of (λ a. a.generation ∷ a.turned ∷ []) r
 
 abbrev pub write_fields_of : WriteFields → List ℕ
 write_fields_of r = r.refusal ∷ r.generation ∷ r.turned ∷ r.unerased ∷ []
 
 -- where a reading is written next, or the refusal that is left to it
-abbrev pub aim_at : ℕ → Field.Reading → Aim
-aim_at t Field.blank = At 0
-aim_at t (Field.reads i x) = cond (eqb i t) (NotAt (Plain 5)) (At i)
-aim_at t (Field.miscounted i u) = NotAt (Miscounted i u)
-aim_at t (Field.beyond i) = NotAt (Beyond i)
+abbrev pub aim_at : ℕ → Field.Reading → Result ℕ Refusal
+aim_at t Field.blank = Ok 0
+aim_at t (Field.reads i x) = cond (eqb i t) (Err Spent) (Ok i)
+aim_at t (Field.miscounted i u) = Err (Miscounted i u)
+aim_at t (Field.beyond i) = Err (Beyond i)
 
 -- the groups that a write of x at place i leaves by the layout of a shape
 abbrev pub after_in : Shape → ℕ → ℕ → List ℕ → List ℕ

@@ -18,14 +18,15 @@ ghost use Rattle.layout.specs.Plan.{Granted};
 ghost use Rattle.reading.specs.Answers.{found_of, SoundCells};
 ghost use Rattle.writing.specs.Answers.{writing_of, write_fields_of, aim_at, laid_by, wits_of, groups_held, Carries, Layable, Takes};
 
-use code::{Dealing, Generation, PATTERN_MOST, Shape, refusals};
-use reading::{Found, Refusal};
+use code::{Dealing, Generation, PATTERN_MOST, Refusal, Shape};
+use reading::{Found, Numbered};
 use shapes::Outline;
 
+// The generation that a number is written at, and how many wits that turned.
 #[derive(Clone, Copy)]
-pub enum Writing {
-    Written { generation: u64, turned: u64 },
-    Refused(Refusal),
+pub struct Written {
+    pub generation: u64,
+    pub turned: u64,
 }
 
 // A write or its refusal in numbers, 0 for those that it lacks.
@@ -39,34 +40,22 @@ pub struct WriteFields {
 }
 
 // Where a reading is written next, or the refusal that is left to it.
-#[derive(Clone, Copy)]
-enum Aim {
-    At(usize),
-    Refused(Refusal),
-}
-
-fn take_aim(found: Found, t: u64) -> Aim
+fn take_aim(found: Found, t: u64) -> Result<usize, Refusal>
     ensures { result ≡ aim_at t (found_of found) }
 {
-    match found {
-        Found::Blank => Aim::At(0),
-        Found::Number {
-            generation,
-            number: _,
-        } => {
+    match found? {
+        None => Ok(0),
+        Some(
+            Numbered {
+                generation,
+                number: _,
+            },
+        ) => {
             if generation == t {
-                return Aim::Refused(Refusal::Plain(refusals::SPENT));
+                return Err(Refusal::Spent);
             }
-            Aim::At(generation as usize)
+            Ok(generation as usize)
         }
-        Found::Miscounted {
-            generation,
-            unerased,
-        } => Aim::Refused(Refusal::Miscounted {
-            generation,
-            unerased,
-        }),
-        Found::Beyond { generation } => Aim::Refused(Refusal::Beyond { generation }),
     }
 }
 
@@ -167,7 +156,13 @@ pub fn write_at(
 }
 
 // The write on sound cells of a number that passed the fourth test: the refusals from 15 on, with the range of the generation that takes it as the last.
-fn write_sound(h: &[u64; 16], f: Outline, v: &[u64; 16], cells: &mut [u8], x: u64) -> Writing
+fn write_sound(
+    h: &[u64; 16],
+    f: Outline,
+    v: &[u64; 16],
+    cells: &mut [u8],
+    x: u64,
+) -> Result<Written, Refusal>
     requires { (Granted (outlined f v.now) h.now) × (over_range (outlined f v.now) x ≡ false) × (SoundCells (outlined f v.now) cells.old) }
     ensures { let s = outlined f v.now in
         (writing_of result ≡ write_reply s x cells.old) × (cells.new ≡ write_leaves s x cells.old) }
@@ -175,79 +170,76 @@ fn write_sound(h: &[u64; 16], f: Outline, v: &[u64; 16], cells: &mut [u8], x: u6
     let mut words = [0u64; 16];
     let mut marks = [0u64; 16];
     let seen = reading::look_at(h, f, v, cells, &mut words, &mut marks);
-    let found = seen.found;
-    let aim = take_aim(found, f.t);
-    match aim {
-        Aim::At(i) => {
-            let g = reading::telling::generation_at(h, f, v, i);
-            if g.range <= x {
-                return Writing::Refused(Refusal::Plain(refusals::NUMBER));
-            }
-            let held = Held {
-                outline: f,
-                groups: h[0] as usize,
-                n: seen.n,
-                zeros: seen.zeros,
-            };
-            let turned = write_at(cells, &mut words, &mut marks, held, g, x);
-            Writing::Written {
-                generation: i as u64 + 1,
-                turned,
-            }
-        }
-        Aim::Refused(k) => Writing::Refused(k),
+    let i = take_aim(seen.found, f.t)?;
+    let g = reading::telling::generation_at(h, f, v, i);
+    if g.range <= x {
+        return Err(Refusal::Number);
     }
+    let held = Held {
+        outline: f,
+        groups: h[0] as usize,
+        n: seen.n,
+        zeros: seen.zeros,
+    };
+    let turned = write_at(cells, &mut words, &mut marks, held, g, x);
+    Ok(Written {
+        generation: i as u64 + 1,
+        turned,
+    })
 }
 
 // The write on a field whose layout is granted.
-pub fn write_granted(h: &[u64; 16], f: Outline, v: &[u64; 16], cells: &mut [u8], x: u64) -> Writing
+pub fn write_granted(
+    h: &[u64; 16],
+    f: Outline,
+    v: &[u64; 16],
+    cells: &mut [u8],
+    x: u64,
+) -> Result<Written, Refusal>
     requires { Granted (outlined f v.now) h.now }
     ensures { let s = outlined f v.now in
         (writing_of result ≡ write_reply s x cells.old) × (cells.new ≡ write_leaves s x cells.old) }
 {
     if !cells::is_sound(cells, shapes::order(f), f.m as usize, h[0] as usize) {
-        return Writing::Refused(Refusal::Plain(refusals::CELLS));
+        return Err(Refusal::Cells);
     }
     // In form 2 the range goes by the generation, and 6 is tested last.
     if (f.form != 2) & (v[0] <= x) {
-        return Writing::Refused(Refusal::Plain(refusals::NUMBER));
+        return Err(Refusal::Number);
     }
     write_sound(h, f, v, cells, x)
 }
 
-pub fn write(s: Shape, cells: &mut [u8], x: u64) -> Writing
+pub fn write(s: Shape, cells: &mut [u8], x: u64) -> Result<Written, Refusal>
     ensures { (writing_of result ≡ write_reply s x cells.old) × (cells.new ≡ write_leaves s x cells.old) }
 {
     let f = shapes::outline_of(s);
     if shapes::outline_outside(f) {
-        return Writing::Refused(Refusal::Plain(refusals::BOUNDS));
+        return Err(Refusal::Bounds);
     }
     let mut h = [0u64; 16];
     let v = s.v;
-    let refusal = layout::lay_outlined(&mut h, f, &v, 256);
-    if refusal != 0 {
-        return Writing::Refused(Refusal::Plain(refusal));
-    }
+    layout::lay_outlined(&mut h, f, &v, 256)?;
     write_granted(&h, f, &v, cells, x)
 }
 
-pub fn flat(writing: Writing) -> WriteFields
+pub fn flat(writing: Result<Written, Refusal>) -> WriteFields
     ensures { write_fields_of result ≡ write_fields (writing_of writing) }
 {
     match writing {
-        Writing::Written { generation, turned } => WriteFields {
+        Ok(made) => WriteFields {
             refusal: 0,
-            generation,
-            turned,
+            generation: made.generation,
+            turned: made.turned,
             unerased: 0,
         },
-        Writing::Refused(refusal) => {
-            let c = reading::flat_refusal(refusal);
+        Err(refusal) => {
+            let told = refusal.fields();
             WriteFields {
-                refusal: c.number,
-                generation: c.generation,
+                refusal: told.number,
+                generation: told.first,
                 turned: 0,
-                unerased: c.unerased,
+                unerased: told.second,
             }
         }
     }

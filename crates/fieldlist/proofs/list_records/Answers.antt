@@ -1,26 +1,22 @@
-use mathlib.Core.Path.{refl, ◌∙◌}
+use mathlib.Core.Path.{◌∙◌}
 use native.Mathlib.Omega.{arith}
-use borrow.Author.Rules.{rules}
 use Rattle.fieldlist.proofs.Pieces.{handing-begin, next-part, handing-next, handing-end}
 use Rattle.fieldlist.proofs.list_records.Goals as goal
 
-pub loop-error-init : goal.loop-error-init
-loop-error-init c =
+pub loop-count-init : goal.loop-count-init
+loop-count-init c =
     let r = c.start_listing-s.ensures in
-    (refl, r.3, r.0, omega arith, handing-begin _ _ c.start_listing-s.result (r.1 ∙ c.requires.1, r.2, r.3))
+    (r.0, omega arith, handing-begin _ _ c.start_listing-s.result (r.1 ∙ c.requires.1, r.2))
 
 pub hand_out-requires : goal.hand_out-requires
-hand_out-requires c = next-part c.loop-error.invariant.4 c.fill-told.ensures
+hand_out-requires c = next-part c.loop-count.invariant.2 c.fill-told.ensures
 
-pub returns-then-s : goal.returns-then-s
-returns-then-s c q = handing-end (handing-next c.loop-error.invariant.4 c.fill-told.ensures) c.if-s.true
+pub returns-in_default : goal.returns-in_default
+returns-in_default c = handing-end (rw c.in_default.is at (handing-next c.loop-count.invariant.2 c.fill-told.ensures))
 
--- a listing that stopped before its end is not said to be whole
-pub returns-in-Err : goal.returns-in-Err
-returns-in-Err c q = cc
-
-pub loop-error-preserved : goal.loop-error-preserved
-loop-error-preserved c =
+pub loop-count-preserved : goal.loop-count-preserved
+loop-count-preserved c =
     let f = c.fill-told.ensures in
-    let v = c.loop-error.invariant in
-    (search rules, c.if-s.false, f.standing, omega (arith, f.inside, v.3, f.further c.if-s.false), handing-next v.4 f)
+    let v = c.loop-count.invariant in
+    let onward = rw c.in-Some.is at f.onward in
+    (onward.0, omega (arith, f.inside, v.1, onward.1), rw c.in-Some.is at (handing-next v.2 f))

@@ -1,22 +1,30 @@
-use mathlib.Core.Path.{refl, ◌∙◌}
-use native.Mathlib.Omega.{arith}
-use native.Mathlib.Numerals.{add-one}
-use Rattle.storing.proofs.Put.{put-none, put_then, put-length}
+use Rattle.std.proofs.Common.{◌≡◌, ℕ, suc, ◌*◌, List, [], ◌∷◌, add-one, arith}
+use Rattle.code.specs.Count.{choose}
+use Rattle.code.specs.Listing.{decimal}
+use Rattle.storing.specs.Put.{Put}
+use Rattle.storing.proofs.Put.{put-none}
+use Rattle.text.specs.Within.{PutWithin}
+use Rattle.text.proofs.Laws.{exactly, within-then, wider}
 use Rattle.handbook.specs.Rows.{entries_text}
 use Rattle.handbook.proofs.put_entries.Goals as goal
 
+-- a number more, behind its space
+one_more : (n k : ℕ) {b c s d : List ℕ} {at place digits x next : ℕ} → PutWithin (21 * k) b c at (entries_text n k) place → Put c s place (32 ∷ []) digits →
+    PutWithin 20 s d digits (decimal x) next → x ≡ choose n k → PutWithin (21 * suc k) b d at (entries_text n (suc k)) next
+unfolding entries_text
+one_more n k p space number e = wider (omega arith) (within-then p (within-then (exactly space) (rw e at number)))
+
 pub loop-k-init : goal.loop-k-init
 unfolding entries_text
-loop-k-init c = (put-none _ _, refl, omega arith, omega arith)
+loop-k-init c = record { put = put-none _ _; few = omega arith }
 
 pub loop-k-preserved : goal.loop-k-preserved
-unfolding entries_text
 loop-k-preserved c =
-    let v = c.loop-k.invariant in
-    let number = rw c.stored.ensures at c.put_decimal-place.ensures.put in
-    let both = put_then c.put_byte-digits.ensures number in (
-      rw (add-one c.loop-k.k) (put_then v.0 both),
-      put-length both ∙ v.1,
-      omega arith,
-      omega (arith, c.put_decimal-place.ensures.few, c.put_byte-digits.ensures.ends, v.3),
-    )
+    rw (add-one c.loop-k.k) (one_more c.args.n c.loop-k.k c.loop-k.invariant c.put_byte-digits.ensures c.put_decimal-place.ensures c.stored.ensures)
+
+-- the last number of the row
+pub returns-2 : goal.returns-2
+returns-2 c =
+    let k : c.loop-k.k ≡ c.args.n = omega arith in
+    let all = one_more c.args.n c.loop-k.k c.loop-k.invariant c.put_byte-digits.ensures c.put_decimal-place.ensures c.stored.ensures in
+    wider (omega arith) (rw k at all)

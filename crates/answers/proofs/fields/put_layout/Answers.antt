@@ -1,6 +1,12 @@
-use borrow.Author.Rules.{rules}
+use Rattle.std.proofs.Common.{refl, arith}
+use lib.ListN.{length-take}
 use Rattle.code.proofs.LayoutCall.{reply-enough}
 use Rattle.answers.proofs.fields.put_layout.Goals as goal
 
-pub put_layout_line-requires : goal.put_layout_line-requires
-put_layout_line-requires c = let l = c.lay_out in (search rules, λ granted. reply-enough _ _ l.result.refusal l.result.h l.ensures granted)
+pub slice_bounds-counts-end : goal.slice_bounds-counts-end
+slice_bounds-counts-end c = reply-enough _ _ 0 c.in-Ok.counts c.in-Ok.ensures refl
+
+pub slice_bounds-writeln-end : goal.slice_bounds-writeln-end
+slice_bounds-writeln-end c =
+    let enough = reply-enough _ _ 0 c.in-Ok.counts c.in-Ok.ensures refl in
+    simp length-take (omega arith)

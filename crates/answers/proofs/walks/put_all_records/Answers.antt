@@ -1,19 +1,20 @@
+use Rattle.std.proofs.Common.{◌≡◌, arith, rules, Ok, false}
 use Rattle.walking.proofs.Rows.{row-some}
-use native.Mathlib.Omega.{arith}
-use borrow.Author.Rules.{rules}
 use Rattle.walking.proofs.Runs.{walked-onward}
 use Rattle.answers.proofs.walks.put_all_records.Goals as goal
 
-pub loop-kind-smaller : goal.loop-kind-smaller
-loop-kind-smaller c =
+pub loop-text-smaller : goal.loop-text-smaller
+loop-text-smaller c =
     let w = c.walk_on-w in
-    let wide = (row-some c.args.kind).1 in
-    let v = c.loop-kind.invariant in
-    omega (arith, walked-onward _ _ _ _ w.result w.ensures (omega arith) (omega arith) (omega arith) c.if-w-ne0-2.false)
+    let wide = (row-some c.args.dump.kind).1 in
+    let v = c.loop-text.invariant in
+    let on : w.result.ended ≡ Ok false = cc in
+    omega (arith, walked-onward _ _ _ _ w.result w.ensures (omega arith) (omega arith) on)
 
-pub loop-kind-preserved : goal.loop-kind-preserved
-loop-kind-preserved c =
+pub loop-text-preserved : goal.loop-text-preserved
+loop-text-preserved c =
     let w = c.walk_on-w in
-    let wide = (row-some c.args.kind).1 in
-    let v = c.loop-kind.invariant in
-    (search rules, search rules, (walked-onward _ _ _ _ w.result w.ensures (omega arith) (omega arith) (omega arith) c.if-w-ne0-2.false).1)
+    let wide = (row-some c.args.dump.kind).1 in
+    let v = c.loop-text.invariant in
+    let on : w.result.ended ≡ Ok false = cc in
+    (search rules, (walked-onward _ _ _ _ w.result w.ensures (omega arith) (omega arith) on).1)

@@ -1,9 +1,8 @@
 use Rattle.std.proofs.Common.{◌≡◌, ◌-◌, ◌≤◌, length}
-use Rattle.lines.specs.Bounds.{text_most}
 use Rattle.answers.proofs.walks.put_all_records.Given as goal
 
-abbrev pub invariant-loop-kind : goal.invariant-loop-kind
-invariant-loop-kind l = (length l.rows ≡ 640) × (l.place ≤ text_most) × (l.next ≤ length l.dump)
+abbrev pub invariant-loop-text : goal.invariant-loop-text
+invariant-loop-text l = (length l.rows ≡ 640) × (l.next ≤ length l.dump.bytes.now)
 
-abbrev pub decreases-loop-kind : goal.decreases-loop-kind
-decreases-loop-kind l = length l.dump - l.next
+abbrev pub decreases-loop-text : goal.decreases-loop-text
+decreases-loop-text l = length l.dump.bytes.now - l.next

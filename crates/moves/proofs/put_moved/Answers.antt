@@ -1,0 +1,17 @@
+use Rattle.storing.proofs.Put.{fitting-all, put-unfit, fits-room}
+use Rattle.moves.specs.Passes.{cells_at}
+use Rattle.moves.proofs.Passing.{part-long}
+use Rattle.moves.proofs.put_moved.Goals as goal
+
+pub returns-then-not-fits : goal.returns-then-not-fits
+returns-then-not-fits c =
+    let h = c.args.head in
+    let told = c.fits.ensures (cells_at c.args.dump.now h) (part-long c.args.dump.now h.start h.count c.requires.head_in_bounds.0) in
+    put-unfit _ _ _ told c.if-not-fits.true
+
+pub returns : goal.returns
+returns c =
+    let h = c.args.head in
+    let told = c.fits.ensures (cells_at c.args.dump.now h) (part-long c.args.dump.now h.start h.count c.requires.head_in_bounds.0) in
+    let room = fits-room _ c.args.place _ told c.requires.head_in_bounds.1 c.if-not-fits.false in
+    rw (fitting-all _ _ _ room) (rw c.part.ensures at c.put_record.ensures)
