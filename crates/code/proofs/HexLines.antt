@@ -1,15 +1,15 @@
 -- Intel HEX: a line's bytes by its characters, its shape, and its refusal test by test.
-use Prim.Native.Nat.{ℕ, zero, suc, ◌+◌, ◌*◌, ◌%◌, ◌≤◌, ◌<◌}
-use mathlib.Core.Path.{◌≡◌, refl, ap, ◌∙◌}
+use Prim.Native.Nat.{ℕ, zero, suc, ◌+◌, ◌*◌, ◌-◌, ◌/◌, ◌%◌, ◌≤◌, ◌<◌}
+use mathlib.Core.Path.{◌≡◌, refl, sym, ap, ◌∙◌}
 use mathlib.Core.Logic.{inl, inr}
 use mathlib.Core.Bool.{Bool, true, false, cond, not, ◌&&◌}
 use mathlib.Core.List.{List, [], ◌∷◌}
 use native.Mathlib.Omega.{arith}
 use native.Mathlib.Nat.{mod-eq_of_lt}
-use lib.ListN.{length, get_or, drop, length-take, length-drop}
+use lib.ListN.{length, get_or, take, drop, length-take, length-drop}
 use lib.Seq.{get_or-take, get_or-drop, drop-drop}
 use lib.Dec.{leb, ltb, eqb}
-use borrow.Author.Tests.{lt-ltb, le-ltb, le-leb, eq-eqb, ne_eqb, ltb-true, ltb-false, leb-true, eqb-true, not-false}
+use borrow.Author.Tests.{lt-ltb, le-ltb, le-leb, lt-leb, eq-eqb, ne_eqb, ltb-true, ltb-false, leb-true, eqb-true, eqb-false, not-false}
 use Rattle.code.specs.Calls.{refusal}
 use Rattle.code.specs.Lists.{ascii}
 use Rattle.code.specs.Hex.{end_record, digit_number, spelled_byte, spelled_bytes, line_bytes, data_count, data_address, line_type, line_data}
@@ -103,6 +103,45 @@ spelled-small (b ∷ bytes) h (suc i) l = spelled-small bytes (both_true (ltb b 
 pub data-small : (line : List ℕ) (i : ℕ) → all_spelled (line_bytes line) ≡ true → i < data_count line → byte_at line (4 + i) < 256
 data-small line i h l = omega (arith, spelled-small (line_bytes line) h (4 + i) (omega (arith, bytes-length line)), byte-at line (4 + i) (omega arith))
 
+-- a byte that is spelled, by its digits, and a digit in one formula
+pub spelled-digits : (a b : ℕ) → spelled_byte a b < 256 → (digit_number a < 16) × (digit_number b < 16) × (spelled_byte a b ≡ 16 * digit_number a + digit_number b)
+unfolding spelled_byte
+spelled-digits a b h = elim (le-or-lt 16 (digit_number a)) [
+  | inl l ↦ let none = rw (le-ltb (digit_number a) 16 l) at h in absurd (omega arith)
+  | inr l ↦ elim (le-or-lt 16 (digit_number b)) [
+    | inl k ↦ let none = rw (lt-ltb (digit_number a) 16 l, le-ltb (digit_number b) 16 k) at h in absurd (omega arith)
+    | inr k ↦ (l, k, rw (lt-ltb (digit_number a) 16 l, lt-ltb (digit_number b) 16 k))
+  ]
+]
+
+pub digit-known : (c : ℕ) → digit_number c < 16 → digit_number c ≡ c % 16 + 9 * (c / 64)
+unfolding digit_number
+digit-known c h = elim (le-or-lt c 57) [
+  | inl l ↦ elim (le-or-lt 48 c) [
+    | inl k ↦ rw (le-leb 48 c k, le-leb c 57 l) (omega arith)
+    | inr k ↦ let none = rw (lt-leb 48 c k, lt-leb 65 c (omega arith), lt-leb 97 c (omega arith)) at h in absurd (omega arith)
+  ]
+  | inr l ↦ letter (le-leb 48 c (omega arith)) (lt-leb c 57 l)
+]
+  where
+    small : leb 48 c ≡ true → leb c 57 ≡ false → leb 65 c ≡ true → leb c 70 ≡ false → 97 ≤ c → digit_number c ≡ c % 16 + 9 * (c / 64)
+    small a b d e k = elim (le-or-lt c 102) [
+      | inl l ↦ rw (a, b, d, e, le-leb 97 c k, le-leb c 102 l) (omega arith)
+      | inr l ↦ let none = rw (a, b, d, e, le-leb 97 c k, lt-leb c 102 l) at h in absurd (omega arith)
+    ]
+
+    letter : leb 48 c ≡ true → leb c 57 ≡ false → digit_number c ≡ c % 16 + 9 * (c / 64)
+    letter a b = elim (le-or-lt c 70) [
+      | inl l ↦ elim (le-or-lt 65 c) [
+        | inl k ↦ rw (a, b, le-leb 65 c k, le-leb c 70 l) (omega arith)
+        | inr k ↦ let none = rw (a, b, lt-leb 65 c k, lt-leb 97 c (omega arith)) at h in absurd (omega arith)
+      ]
+      | inr l ↦ elim (le-or-lt 97 c) [
+        | inr k ↦ let none = rw (a, b, le-leb 65 c (omega arith), lt-leb c 70 l, lt-leb 97 c k) at h in absurd (omega arith)
+        | inl k ↦ small a b (le-leb 65 c (omega arith)) (lt-leb c 70 l) k
+      ]
+    ]
+
 pub is_true : (b : Bool) → (b ≡ false → ⊥) → b ≡ true
 is_true true h = refl
 is_true false h = absurd (h refl)
@@ -185,6 +224,21 @@ five (a ∷ b ∷ c ∷ d ∷ e ∷ f ∷ xs) h = absurd (omega arith)
 end-listed : (line : List ℕ) → line_bytes line ≡ 0 ∷ 0 ∷ 0 ∷ 1 ∷ 255 ∷ [] → is_end line ≡ true
 unfolding is_end same
 end-listed line e = rw (e, end_bytes)
+
+-- the end record compared byte by byte
+pub end_is : (line : List ℕ) → ((i : ℕ) → i < 5 → byte_at line i ≡ byte_at end_record i) → is_end line ≡ true
+unfolding end_record ascii spelled_byte digit_number
+end_is line h =
+    let c : data_count line ≡ 0 = count-is line ∙ h 0 (omega arith) in
+    let at : (i : ℕ) → i < 5 → get_or (line_bytes line) i 0 ≡ byte_at end_record i = λ i l. byte-at line i (omega arith) ∙ h i l in
+    end-listed line (five (line_bytes line) (omega (arith, bytes-length line))
+    ∙ rw (at 0 (omega arith), at 1 (omega arith), at 2 (omega arith), at 3 (omega arith), at 4 (omega arith)))
+
+pub not_end : (line : List ℕ) (i : ℕ) → i < 5 → (byte_at line i ≡ byte_at end_record i → ⊥) → is_end line ≡ false
+unfolding is_end
+not_end line i l n = is_false (is_end line) (λ e. n (
+    sym (byte-at line i (omega arith)) ∙ ap (λ (bytes : List ℕ). get_or bytes i 0) (same-eq (line_bytes line) (line_bytes end_record) e)
+    ∙ byte-at end_record i (omega arith)))
 
 -- what is known of a line that passes every test
 pub record GoodLine (n : ℕ) (line : List ℕ) : Type 0 where

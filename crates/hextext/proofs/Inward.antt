@@ -1,5 +1,5 @@
 -- Laws of an import: a line tested test by test, a text checked line by line, its data stored.
-use mathlib.Core.Path.{◌≡◌, sym, ◌∙◌}
+use mathlib.Core.Path.{◌≡◌, refl, sym, ◌∙◌}
 use mathlib.Core.Logic.{inl, inr}
 use mathlib.Core.Bool.{true, false, not, ◌&&◌}
 use mathlib.Core.List.{List, [], ◌∷◌, ◌++◌}
@@ -9,19 +9,36 @@ use native.Mathlib.Numerals.{add-one}
 use lib.ListN.{length, get_or, take}
 use lib.Seq.{take-suc}
 use lib.Dec.{leb, ltb, eqb}
-use borrow.Author.Tests.{lt-ltb, le-ltb, le-leb, lt-leb}
-use Rattle.code.specs.Hex.{line_bytes, data_count, line_refusal, all_spelled, laden_end, wrong_sum, displaced}
-use Rattle.code.proofs.Tests.{le-or-lt, both_true}
+use borrow.Author.Tests.{lt-ltb, le-ltb, le-leb, lt-leb, eq-eqb, eqb-true, not-false}
+use Rattle.code.specs.Lists.{ascii}
+use Rattle.code.specs.Hex.{end_record, digit_number, spelled_byte, spelled_bytes, line_bytes, data_count, line_refusal, all_spelled, laden_end, wrong_sum, displaced}
+use Rattle.code.proofs.Tests.{le-or-lt, both_true, clash}
 use Rattle.code.proofs.HexLines.{byte_at, Shaped, bytes-length, byte-at, is_false, spelled-small, next-is, size-within, line-passes}
 use Rattle.hextext.specs.declared.import.Line.{Line}
 use Rattle.std.specs.Prelude.{Option, None, Some}
-use Rattle.std.specs.Option.{unwrap_or}
+use Rattle.std.specs.Option.{option_eq}
 use Rattle.hextext.specs.Answers.{TellsBelow, Measured, Spans}
 
--- a number that is below the bound is told
-pub told_below : (most n : ℕ) (o : Option ℕ) → TellsBelow most n o → n < most → unwrap_or o 0 ≡ n
-told_below most n None t h = absurd (omega arith)
-told_below most n (Some k) t h = sym t.0
+-- what holds below i and at i holds below i + 1
+pub one_more : (P : ℕ → Type 0) (i : ℕ) → ((k : ℕ) → k < i → P k) → P i → (k : ℕ) → k < i + 1 → P k
+one_more P i h p k l = elim (le-or-lt i k) [ inl g ↦ let e : k ≡ i = omega arith in rw e p | inr g ↦ h k g ]
+
+-- digits spell the bytes of the end record
+pub end-small : (i : ℕ) → i < 5 → byte_at end_record i < 256
+unfolding end_record ascii line_bytes spelled_bytes spelled_byte digit_number all_spelled
+end-small i l = omega (arith, spelled-small (line_bytes end_record) refl i l, byte-at end_record i (omega arith))
+
+-- two bytes, the second of which is spelled, are alike where the same is told of them
+pub alike : {a b : ℕ} (p q : Option ℕ) → TellsBelow 256 a p → TellsBelow 256 b q → b < 256 → false ≡ not (option_eq eqb p q) → a ≡ b
+alike p None s t l h = absurd (omega arith)
+alike None (Some k) s t l h = clash (cc)
+alike (Some j) (Some k) s t l h = s.0 ∙ eqb-true j k (not-false (eqb j k) (sym h)) ∙ sym t.0
+
+-- and are not where something else is
+pub unlike : {a b : ℕ} (p q : Option ℕ) → TellsBelow 256 a p → TellsBelow 256 b q → b < 256 → true ≡ not (option_eq eqb p q) → a ≡ b → ⊥
+unlike p None s t l h e = absurd (omega arith)
+unlike None (Some k) s t l h e = absurd (omega (arith, t.1))
+unlike (Some j) (Some k) s t l h e = let same : j ≡ k = sym s.0 ∙ e ∙ t.0 in clash (cc (rw (same, eq-eqb k k refl) at h))
 
 spelled-last : (xs : List ℕ) (b : ℕ) → all_spelled xs ≡ true → b < 256 → all_spelled (xs ++ (b ∷ [])) ≡ true
 unfolding all_spelled

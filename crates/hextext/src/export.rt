@@ -75,5 +75,5 @@ pub fn put_end(out: &mut [u8], at: usize) -> usize
     requires { at + 12 ≤ length out.old }
     ensures { Put out.old out.new at end_record result }
 {
-    storing::put_bytes(out, at, b":00000001FF\n")
+    storing::put_bytes(out, at, &crate::END)
 }

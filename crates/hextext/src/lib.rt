@@ -11,7 +11,10 @@ ghost use Rattle.storing.specs.Answers.{made_of};
 use code::Refusal;
 
 // The most bytes of a text: there are no more addresses.
-const BYTES_MOST: usize = 65536;
+pub const BYTES_MOST: usize = 65536;
+
+// The end record, which the export stores and the import compares.
+pub const END: [u8; 12] = *b":00000001FF\n";
 
 // Stores the text of `bytes` at the front of `out`.
 pub fn hex_export(bytes: &[u8], out: &mut [u8]) -> Result<usize, Refusal>

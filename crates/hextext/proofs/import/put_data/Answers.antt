@@ -9,7 +9,6 @@ use lib.Seq.{drop-cons}
 use Rattle.code.specs.Hex.{line_data}
 use Rattle.code.proofs.HexLines.{data-at, data-length, data-small}
 use Rattle.storing.proofs.Put.{storing-begin, storing-first, storing-end}
-use Rattle.hextext.proofs.Inward.{told_below}
 use Rattle.hextext.proofs.import.put_data.Goals as goal
 
 pub loop-i-init : goal.loop-i-init
@@ -24,7 +23,7 @@ loop-i-preserved c d =
     let left : drop s.i (line_data line) ≡ get_or (line_data line) s.i 0 ∷ drop (suc s.i) (line_data line) = drop-cons (line_data line) s.i 0 l in
     let there = data-at line s.i (omega (arith, l, data-length line)) in
     let spelled = data-small line s.i d.1 (omega (arith, c.loop-i-test.true, d.0)) in
-    let byte : c.unwrap_or.result ≡ get_or (line_data line) s.i 0 = c.unwrap_or.ensures ∙ told_below 256 _ _ c.byte_at.ensures spelled ∙ sym there in
+    let byte : c.known_byte.result ≡ get_or (line_data line) s.i 0 = c.known_byte.ensures spelled ∙ sym there in
     rw (← add_assoc, add-one s.i) (storing-first (rw left at (s.invariant d)) refl byte)
 
 pub returns : goal.returns
