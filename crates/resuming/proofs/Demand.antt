@@ -1,10 +1,11 @@
 -- Document 02, §9, of the calls: over all answers and cells at exit that their promises allow.
 use Prim.Native.Nat.{ℕ, suc, ◌+◌, ◌-◌, ◌≤◌, ◌<◌}
 use mathlib.Core.Path.{◌≡◌, refl, sym, ap, ◌∙◌}
-use mathlib.Core.Logic.{◌⊎◌, inl, inr, ◌↔◌}
+use mathlib.Core.Logic.{◌⊎◌, inl, inr, ◌↔◌, ◌≢◌}
 use mathlib.Core.Bool.{false}
 use mathlib.Core.List.{List, [], ◌∷◌, Memᴰ}
 use native.Mathlib.Omega.{arith}
+use native.Mathlib.Decide.{ℕ_discrete}
 use native.Mathlib.Nat.{le_refl, sub-zero}
 use lib.ListN.{length, get_or}
 use lib.Dec.{leb}
@@ -40,7 +41,8 @@ use Rattle.writing.proofs.Accepted.{wrote, granted-first, made-with-none}
 use Rattle.writing.proofs.Rewriting as Writes
 use Rattle.writing.proofs.Demand.{CallsFrom, accepted-from}
 use Rattle.resuming.specs.declared.Resumed.{Resumed}
-use Rattle.resuming.specs.Answers.{resumed_of}
+use Rattle.resuming.specs.declared.ResumeFields.{ResumeFields}
+use Rattle.resuming.specs.Answers.{resumed_of, resume_fields_of}
 use Rattle.resuming.proofs.Resuming.{Answers}
 use Rattle.resuming.proofs.Unique.{fields-at}
 
@@ -61,6 +63,11 @@ told-err (Err j) k l e =
     let same : number_of j ≡ number_of k = sym (fields-at (refusal_reply j) 0 (omega arith)) ∙ e in
     let alone = refused-early j (omega (arith, same)) in
     rw (refusal-alike j k (alone ∙ rw same (sym (refused-early k l))))
+
+-- what the struct that C gets tells first
+first-told : (s : Shape) (x : ℕ) (bs : List ℕ) (r : ResumeFields) (after : List ℕ) → Answers s x bs (resume_fields_of r) after →
+    r.refusal ≡ refusal_in (resume_reply s x bs)
+first-told s x bs r after promise = ap (λ xs. get_or xs 0 0) promise.0 ∙ fields-at (resume_reply s x bs) 0 (omega arith)
 
 module _ (s : Shape) (x : ℕ) (bs : List ℕ) (r : Result Resumed Refusal) (after : List ℕ) (promise : Answers s x bs (resumed_of r) after) where
   first : told_number r ≡ refusal_in (resume_reply s x bs)
@@ -151,6 +158,61 @@ module _ (s : Shape) (x : ℕ) (bs : List ℕ) (r : Result Resumed Refusal) (aft
         rw told.0 (accepted-from s (laid_out z) (resume_leaves s x bs) xs cells answers (rw promise.1 at C) stands.0 stands.1 i stands.2 j (rw told.0 at b) l
         ∙ rw (none, sub-zero))
 
+-- The same of the struct that C gets, which tells 0 or the refusal by a field of its own.
+module _ (s : Shape) (x : ℕ) (bs : List ℕ) (r : ResumeFields) (after : List ℕ) (promise : Answers s x bs (resume_fields_of r) after) where
+  -- the answer in Rattle that has the other fields
+  abbrev made : Resumed
+  made = record { generation = r.generation; turned = r.turned; count = r.count; erased = r.erased }
+
+  accepted : r.refusal ≡ 0 → Answers s x bs (resumed_of (Ok made)) after
+  accepted z = rw z at promise
+
+  -- A refused call leaves the cells as they were.
+  pub refused-keeps-fields : r.refusal ≢ 0 → after ≡ bs
+  unfolding resume_reply answer
+  refused-keeps-fields d = promise.1 ∙ go (resume_refusal s x bs) refl
+    where
+      go : (k : List ℕ) → resume_refusal s x bs ≡ k → resume_leaves s x bs ≡ bs
+      go [] q = absurd (d (first-told s x bs r after promise ∙ rw q))
+      go (k ∷ carried) q = unfold resume_leaves in unfold leaves in rw q
+
+  -- No 1 becomes 0, whatever the answer.
+  pub never-falls-fields : Bytes bs → (w : ℕ) → wit (order_of s) bs w ≤ wit (order_of s) after w
+  never-falls-fields B w = elim (ℕ_discrete r.refusal 0) [
+    | yes z ↦ never-falls s x bs (Ok made) after (accepted z) B w
+    | no d ↦ rw (refused-keeps-fields d) (le_refl (wit (order_of s) bs w))
+  ]
+
+  -- What an accepted call answers and leaves.
+  module _ (B : Bytes bs) (z : r.refusal ≡ 0) where
+    -- the groups that are all ones now and not before
+    abbrev pub fresh-fields : List ℕ
+    fresh-fields = fresh_groups (code_of s) bs after
+
+    -- The generation is the one behind that which the zero groups point to, never the first.
+    pub generation-found-fields : (r.generation ≡ suc (pointed s bs)) × (2 ≤ r.generation) × (r.generation ≤ s.t)
+    generation-found-fields = generation-found s x bs (Ok made) after (accepted z) B made refl
+
+    -- Every answer that read's promise allows is the generation answered and the number just written.
+    pub reads-back-fields : (b : Result Reading Refusal) → reading_of b ≡ read_reply s after → b ≡ Ok (Reads.told r.generation x (s.t - r.generation))
+    reads-back-fields = reads-back s x bs (Ok made) after (accepted z) B made refl
+
+    -- The turned count is the ones after less the ones before.
+    pub turned-are-fields : r.turned + ones (order_of s) bs ≡ ones (order_of s) after
+    turned-are-fields = turned-are s x bs (Ok made) after (accepted z) B made refl
+
+    -- The groups told are counted, and each has its bit; they are exactly those that are all ones now and were not before.
+    pub groups-told-fields : (r.count ≡ length fresh-fields) × (r.erased ≡ listed (λ w. bits_at w fresh-fields) 0 4)
+    groups-told-fields = groups-told s x bs (Ok made) after (accepted z) B made refl
+
+    pub groups-exactly-fields : (j : ℕ) → Memᴰ j fresh-fields ↔ Fresh (erased (code_of s)) (groups_in (code_of s) bs) (groups_in (code_of s) after) j
+    groups-exactly-fields = groups-exactly s x bs (Ok made) after (accepted z) B made refl
+
+    -- From there on call j, the first being call 0, is accepted exactly when the generation and j + 1 are together at most t, zeros or not.
+    pub goes_on-fields : (xs : List ℕ) (cells : ℕ → List ℕ) (answers : ℕ → Result Written Refusal) → CallsFrom s after xs cells answers → (j : ℕ) →
+        InRange (first_of s) (ranges_of s) r.generation xs → j < length xs → is_ok (answers j) ≡ leb (r.generation + suc j) s.t
+    goes_on-fields = goes_on s x bs (Ok made) after (accepted z) B made refl
+
 -- A write that was cut off: cells that lie wit by wit between those before it and those that its promise leaves.
 module _ (s : Shape) (x : ℕ) (before after : List ℕ) (B : Bytes before) (i n : ℕ) (written : Writes.Answers s x before (writing_of (wrote i n)) after)
     (bs : List ℕ) (cut : Between (order_of s) before bs after) where
@@ -204,4 +266,42 @@ module _ (s : Shape) (x : ℕ) (before after : List ℕ) (B : Bytes before) (i n
         | inr f ↦ f
       ],
       λ f. told-err r Spent (omega arith) (refusal_is (5 ∷ []) ((CutOff.cut-spent s ok x before B none bs inside u).1 f)),
+    )
+
+  -- The same of the struct that C gets.
+  module _ (u : Field.has_reading (field_read s bs) ≡ false) (r : ResumeFields) (left : List ℕ) (promise : Answers s x bs (resume_fields_of r) left) where
+    abbrev pub few-fields : Type 0
+    few-fields = Field.zeros (groups_in (code_of s) bs) < get_or (counts_of s) (s.t - 1) 0
+
+    enough-fields : (few-fields → ⊥) → get_or (counts_of s) (s.t - 1) 0 ≤ Field.zeros (groups_in (code_of s) bs)
+    enough-fields e = elim (le-or-lt (get_or (counts_of s) (s.t - 1) 0) (Field.zeros (groups_in (code_of s) bs))) [ inl l ↦ l | inr f ↦ absurd (e f) ]
+
+    refusal_told : (k : List ℕ) → resume_refusal s x bs ≡ k → r.refusal ≡ refusal_in (answer k (0 ∷ []))
+    unfolding resume_reply answer
+    refusal_told [] q = first-told s x bs r left promise ∙ rw q
+    refusal_told (k ∷ carried) q = first-told s x bs r left promise ∙ rw q
+
+    pub cut-resumed-fields : (s.form ≡ 2 → ⊥) → (few-fields → ⊥) → r.refusal ≡ 0
+    unfolding answer
+    cut-resumed-fields one e = refusal_told [] (CutOff.cut-resumed s ok x before B none bs inside u one (enough-fields e))
+
+    pub cut-accepted-fields : (few-fields → ⊥) → x < get_or (ranges_of s) (place_in s bs) 0 → r.refusal ≡ 0
+    unfolding answer
+    cut-accepted-fields e g = refusal_told [] (CutOff.cut-accepted s ok x before B none bs inside u (enough-fields e) g)
+
+    pub cut-beyond-fields : (few-fields → ⊥) → get_or (ranges_of s) (place_in s bs) 0 ≤ x → r.refusal ≡ 6
+    unfolding answer
+    cut-beyond-fields e g = refusal_told (6 ∷ []) (CutOff.cut-beyond s ok x before B none bs inside u (enough-fields e) g)
+
+    pub cut-spent-fields : (r.refusal ≡ 5) ↔ few-fields
+    unfolding answer
+    cut-spent-fields = (
+      λ five. elim (le-or-lt (get_or (counts_of s) (s.t - 1) 0) (Field.zeros (groups_in (code_of s) bs))) [
+        | inl e ↦ elim (le-or-lt (get_or (ranges_of s) (place_in s bs) 0) x) [
+          | inl g ↦ absurd (omega (arith, five, cut-beyond-fields (λ f. omega arith) g))
+          | inr g ↦ absurd (omega (arith, five, cut-accepted-fields (λ f. omega arith) g))
+        ]
+        | inr f ↦ f
+      ],
+      λ f. refusal_told (5 ∷ []) ((CutOff.cut-spent s ok x before B none bs inside u).1 f),
     )
