@@ -132,6 +132,9 @@ pub struct Record {
     pub outcome: Result<Reading, Refusal>,
 }
 
+// One step of the walk, of either kind of dump: a record, whose outcome is a reading or a refusal; none at the end; or why the walk stops before it.
+pub type Step = Result<Option<Record>, Halt>;
+
 // What stands at a place: the head of a record, nothing at the end, or why the walk stops.
 pub fn locate(dump: &[u8], kind: Kind, places: &[u16], at: usize) -> Result<Option<Head>, Halt>
     requires { Walkable kind dump.now places.now }
@@ -174,7 +177,7 @@ fn planned_record(dump: &[u8], kept: &Kept, head: Head) -> Record
 }
 
 // The step at a place, by itself: a record, nothing at the end, or why the walk stops.
-pub fn step_at(dump: &[u8], kind: Kind, at: usize) -> Result<Option<Record>, Halt>
+pub fn step_at(dump: &[u8], kind: Kind, at: usize) -> Step
     ensures { step_of result ≡ step_reply kind dump.now at }
 {
     let mut places = [0u16; LAYOUTS_MOST];
@@ -183,7 +186,7 @@ pub fn step_at(dump: &[u8], kind: Kind, at: usize) -> Result<Option<Record>, Hal
 }
 
 // The step at a place of a dump that is opened.
-fn step_in(dump: &[u8], kind: Kind, places: &[u16], at: usize) -> Result<Option<Record>, Halt>
+fn step_in(dump: &[u8], kind: Kind, places: &[u16], at: usize) -> Step
     requires { Walkable kind dump.now places.now }
     ensures { step_of result ≡ step_reply kind dump.now at }
 {
@@ -196,13 +199,7 @@ fn step_in(dump: &[u8], kind: Kind, places: &[u16], at: usize) -> Result<Option<
 }
 
 // The same, with what is kept of the steps before.
-pub fn step_kept(
-    dump: &[u8],
-    kind: Kind,
-    places: &[u16],
-    at: usize,
-    kept: &mut Kept,
-) -> Result<Option<Record>, Halt>
+pub fn step_kept(dump: &[u8], kind: Kind, places: &[u16], at: usize, kept: &mut Kept) -> Step
     requires { Walkable kind dump.now places.now × Keeps (source_of kind dump.now places.now) kept.old }
     ensures step_value { step_of result ≡ step_reply kind dump.now at }
     ensures keeps { Keeps (source_of kind dump.now places.now) kept.new }
