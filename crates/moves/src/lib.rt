@@ -43,12 +43,8 @@ fn put_moved(dump: &[u8], head: Head, numbers: &[u64], out: &mut [u8], place: us
     if !records::fits(numbers, head.count, out.len() - place) {
         return place;
     }
-    records::put_record(
-        out,
-        place,
-        numbers,
-        records::part(dump, head.start, head.count),
-    )
+    let cells = &dump[head.start..head.start + head.count];
+    records::put_record(out, place, numbers, cells)
 }
 
 // Moves an old dump to a new one, which it stores at the front of `out`: the length of the new one.
