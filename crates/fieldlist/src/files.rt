@@ -1,16 +1,47 @@
 // Standard input, to its end. A call that a signal interrupts is made again; any other that fails is told by its error.
-ghost use Rattle.std.specs.Prelude.{IfOk};
+ghost use Rattle.std.specs.Prelude.{IfOk, IfErr};
 ghost use Rattle.fieldlist.specs.Reads.{IsPrefixLen};
 
-use std::io;
-use std::io::{Error, Read, Stdin};
+use std::io::{Error, ErrorKind, Read, Stdin};
 
-// Reads into a buffer until the input ends or the buffer is full. A copy promises nothing of its count, so that it is held against the length.
-pub fn read_all(stdin: Stdin, buffer: &mut [u8]) -> Result<usize, Error>
-    ensures { IfOk result (λ count. IsPrefixLen count buffer.new) }
+// A read that failed, and how many bytes were read before it.
+#[derive(Drop)]
+pub struct Cut {
+    pub count: usize,
+    pub error: Error,
+}
+
+// Whether a call was interrupted by a signal.
+fn is_interrupted(error: &Error) -> bool {
+    error.kind() == ErrorKind::Interrupted
+}
+
+// A proved loop has to end, and nothing says that interruptions do: this comes behind a number of turns that no run uses up.
+fn interrupted() -> Error {
+    Error::from(ErrorKind::Interrupted)
+}
+
+// Reads into a buffer until the input ends or the buffer is full. Each read has all that is left of the buffer for room: an input that keeps messages apart,
+// as a socket may, gives one at a time and drops what there is no room for, so that `io::copy`, which reads 8,192 bytes at once, would lose the rest (a).
+pub fn read_all(mut stdin: Stdin, buffer: &mut [u8]) -> Result<usize, Cut>
+    ensures ok { IfOk result (λ count. IsPrefixLen count buffer.new) }
+    ensures err { IfErr result (λ cut. IsPrefixLen cut.count buffer.new) }
 {
-    let most = buffer.len();
-    let mut room = &mut buffer[..];
-    let count = io::copy(&mut stdin.take(most as u64), &mut room)?;
-    Ok(most.min(count as usize))
+    let mut count = 0;
+    for _ in 0..u64::MAX {
+        if buffer.len() <= count {
+            return Ok(count);
+        }
+        match stdin.read(&mut buffer[count..]) {
+            Ok(0) => return Ok(count),
+            Ok(got) => count += got,
+            Err(error) => {
+                if !is_interrupted(&error) {
+                    return Err(Cut { count, error });
+                }
+            }
+        }
+    }
+    let error = interrupted();
+    Err(Cut { count, error })
 }

@@ -39,7 +39,7 @@ fn list_input(rt: HostRuntime, kind: Kind) {
                 failures::tell(&rt, "write standard output", error);
             }
         }
-        Err(error) => failures::tell(&rt, "read standard input", error),
+        Err(cut) => failures::tell(&rt, "read standard input", cut.error),
     }
 }
 
