@@ -1,8 +1,8 @@
-// Standard input, to its end. A call that a signal interrupts is made again; any other that fails is told by its error.
+// Standard input and standard output, to their end. A call that a signal interrupts is made again; any other that fails is told by its error.
 ghost use Rattle.std.specs.Prelude.{IfOk, IfErr};
 ghost use Rattle.fieldlist.specs.Reads.{IsPrefixLen};
 
-use std::io::{Error, ErrorKind, Read, Stdin};
+use std::io::{Error, ErrorKind, Read, Stdin, Stdout, Write};
 
 // A read that failed, and how many bytes were read before it.
 #[derive(Drop)]
@@ -44,4 +44,23 @@ pub fn read_all(mut stdin: Stdin, buffer: &mut [u8]) -> Result<usize, Cut>
     }
     let error = interrupted();
     Err(Cut { count, error })
+}
+
+// Writes all of a text. A write that takes nothing of it is made again, where std's `write_all` would tell a failure (a).
+pub fn write_all(mut stdout: Stdout, text: &[u8]) -> Result<(), Error> {
+    let mut count = 0;
+    for _ in 0..u64::MAX {
+        if text.len() <= count {
+            return Ok(());
+        }
+        match stdout.write(&text[count..]) {
+            Ok(put) => count += put,
+            Err(error) => {
+                if !is_interrupted(&error) {
+                    return Err(error);
+                }
+            }
+        }
+    }
+    Err(interrupted())
 }

@@ -13,7 +13,7 @@ ghost use Rattle.fieldlist.specs.Handing.{Part};
 
 use code::Kind;
 use dump::Halt;
-use std::io::{Error, Stdout, Write};
+use std::io::{Error, Stdout};
 
 // A byte more than a dump may have, so that one that is too long shows.
 const MOST: usize = dump::DUMP_MOST + 1;
@@ -94,14 +94,8 @@ fn list_records(
 }
 
 // Writes a part of a dump's text, that from a place on. The dump, its kind and the place stand here for the promise: nothing else is ever handed out.
-fn hand_out(
-    mut stdout: Stdout,
-    dump: &[u8],
-    kind: Kind,
-    at: usize,
-    piece: &[u8],
-) -> Result<(), Error>
+fn hand_out(stdout: Stdout, dump: &[u8], kind: Kind, at: usize, piece: &[u8]) -> Result<(), Error>
     requires { Part (listing kind dump.now) at piece.now }
 {
-    stdout.write_all(piece)
+    files::write_all(stdout, piece)
 }
