@@ -19,7 +19,7 @@ const NUMBERS_MOST: usize = 64;
 // The refusal, 0 where all numbers are written; where it is a field's, stopped is 1 and the field is told, counted from 0. Then how many
 // fields are written, and what the refusal carries, as far as it does: the generation that the field's zero groups point to, and how many
 // are not erased. Behind that two rows of 64: of each field written its generation, then of each its turned count, 0 behind them.
-// As C has it (b): the call takes 1,800 bytes of stack so, all that its limit allows, and a form beside it would copy the rows.
+// As C has it (b): a form beside it would copy the rows, and a second copy passes the call's limit of 1,800 bytes of stack.
 #[repr(C)]
 #[derive(Clone, Copy)]
 pub struct Many {
@@ -140,20 +140,14 @@ fn write_all(s: Shape, cells: &mut [u8], numbers: &[u64], rows: &mut [u16; 128])
     write_fields(&field, cells, size, numbers, rows)
 }
 
-// One number for each field, written in order; the first refusal ends it, and the fields before it stay written.
-pub fn write_many(s: Shape, cells: &mut [u8], numbers: &[u64]) -> Many
-    ensures result_value { many_of result ≡ many_reply s numbers.now cells.old }
+// Writes the numbers, and tells in an answer that is all zeros how that ended. It stays a call: where it is put into those that hand the answer on, the answer
+// is kept more than once, 304 bytes of stack each.
+#[inline(never)]
+fn write_and_tell(made: &mut Many, s: Shape, cells: &mut [u8], numbers: &[u64])
+    requires { made.old ≡ record { refusal = 0; stopped = 0; field = 0; written = 0; reached = 0; unerased = 0; rows = replicate 128 0 } }
+    ensures made_after { many_of made.new ≡ many_reply s numbers.now cells.old }
     ensures cells_after { cells.new ≡ many_leaves s numbers.now cells.old }
 {
-    let mut made = Many {
-        refusal: 0,
-        stopped: 0,
-        field: 0,
-        written: 0,
-        reached: 0,
-        unerased: 0,
-        rows: [0u16; 128],
-    };
     match write_all(s, cells, numbers, &mut made.rows) {
         Ok(()) => made.written = numbers.len() as u64,
         Err(stop) => {
@@ -168,5 +162,22 @@ pub fn write_many(s: Shape, cells: &mut [u8], numbers: &[u64]) -> Many
             }
         }
     }
+}
+
+// One number for each field, written in order; the first refusal ends it, and the fields before it stay written.
+pub fn write_many(s: Shape, cells: &mut [u8], numbers: &[u64]) -> Many
+    ensures result_value { many_of result ≡ many_reply s numbers.now cells.old }
+    ensures cells_after { cells.new ≡ many_leaves s numbers.now cells.old }
+{
+    let mut made = Many {
+        refusal: 0,
+        stopped: 0,
+        field: 0,
+        written: 0,
+        reached: 0,
+        unerased: 0,
+        rows: [0u16; 128],
+    };
+    write_and_tell(&mut made, s, cells, numbers);
     made
 }
