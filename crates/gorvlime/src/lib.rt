@@ -27,6 +27,7 @@ ghost use Rattle.storing.specs.Answers.{made_of};
 
 use code::{Kind, Pair, Refusal, Shape};
 use dump::{Halt, Opened, Record};
+use layout::Layout;
 use many::Many;
 use pairing::{PairRead, PairWritten};
 use reading::Reading;
@@ -39,6 +40,14 @@ pub fn lay_out(s: Shape, g: u64) -> Result<[u64; 16], Refusal>
     ensures { laid_of result ≡ filled layout_fields (layout_reply s g) }
 {
     layout::lay_out(s, g)
+}
+
+// The same in numbers, for C: it is put where it is called, since its answer handed on would be copied.
+#[inline(always)]
+pub fn lay_out_fields(s: Shape, g: u64) -> Layout
+    ensures { (result.refusal ∷ result.h) ≡ filled layout_fields (layout_reply s g) }
+{
+    layout::lay_out_fields(s, g)
 }
 
 // The number in a field.
@@ -56,7 +65,9 @@ pub fn write(s: Shape, cells: &mut [u8], number: u64) -> Result<Written, Refusal
     writing::write(s, cells, number)
 }
 
-// One number for each of the fields that lie end to end in the cells, written in order up to the first refusal.
+// One number for each of the fields that lie end to end in the cells, written in order up to the first refusal. It is put where it is called too: a copy of
+// the answer would take 304 bytes of stack.
+#[inline(always)]
 pub fn write_many(s: Shape, cells: &mut [u8], numbers: &[u64]) -> Many
     ensures result_value { many_of result ≡ many_reply s numbers.now cells.old }
     ensures cells_after { cells.new ≡ many_leaves s numbers.now cells.old }

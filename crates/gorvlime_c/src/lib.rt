@@ -33,7 +33,7 @@ use dump::{Brief, Halt, Opened, Record};
 pub extern "C" fn gorvlime_layout(s: Shape, g: u64) -> layout::Layout
     ensures { (result.refusal ∷ result.h) ≡ filled layout_fields (layout_reply s g) }
 {
-    layout::lay_out_fields(s, g)
+    gorvlime::lay_out_fields(s, g)
 }
 
 #[unsafe(no_mangle)]
@@ -56,8 +56,7 @@ pub extern "C" fn gorvlime_write_many(s: Shape, cells: &mut [u8], numbers: &[u64
     ensures result_value { many_of result ≡ many_reply s numbers.now cells.old }
     ensures cells_after { cells.new ≡ many_leaves s numbers.now cells.old }
 {
-    // Not by crate gorvlime, whose answer would be copied once more: 304 bytes of stack (b).
-    many::write_many(s, cells, numbers)
+    gorvlime::write_many(s, cells, numbers)
 }
 
 #[repr(C)]
