@@ -1,6 +1,7 @@
 // Standard input, read into a lent buffer.
-ghost use Rattle.std.specs.Prelude.{◌≤◌, length};
+ghost use Rattle.std.specs.Prelude.{◌≡◌, ◌+◌, ◌≤◌, false, length};
 ghost use Rattle.protocol.specs.declared.input.TheConstants.{BUFFER_MOST};
+ghost use Rattle.protocol.specs.Bounds.{call_most};
 
 use crate::calls;
 use crate::calls::{Broken, Call, Lent};
@@ -48,8 +49,10 @@ impl Input {
         Ok(call)
     }
 
-    // Reads on where what is left might not be a whole call.
-    fn refill(&mut self, buffer: &mut Buffer) {
+    // Reads on where what is left might not be a whole call, so that no call is cut off but by the end of the input.
+    fn refill(&mut self, buffer: &mut Buffer)
+        ensures { self.new.ended ≡ false → self.new.at + call_most ≤ self.new.end }
+    {
         let left = self.end - self.at;
         if self.ended || CALL_MOST <= left {
             return;
