@@ -1,4 +1,7 @@
 // Calls as they stand in the stream. The byte in front says which it is, and is looked at nowhere else.
+ghost use Rattle.std.specs.Prelude.{◌≡◌, length, IfOk};
+ghost use Rattle.protocol.specs.Bounds.{output_most, listed_most, Limited};
+
 use crate::reader::Reader;
 use code::{Kind, Pair, Shape};
 use std::fmt;
@@ -17,7 +20,9 @@ pub struct Lent {
 }
 
 impl Lent {
-    pub fn new() -> Lent {
+    pub fn new() -> Lent
+        ensures { (length result.listed ≡ listed_most) × (length result.output ≡ output_most) }
+    {
         Lent {
             listed: [0; LISTED_MOST],
             output: [0xa5; OUTPUT_MOST],
@@ -84,25 +89,27 @@ pub enum Call<'a> {
 }
 
 // The call that comes next.
-pub fn read_call<'a>(r: &mut Reader<'a>, lent: &'a mut Lent) -> Result<Call<'a>, Broken> {
-    Ok(match r.operation()? {
-        1 => Call::Layout(r.shape()?, r.number()?),
-        2 => Call::Read(r.shape()?, r.bytes()?),
-        3 => Call::Write(r.shape()?, r.number()?, r.bytes()?),
-        4 => Call::Export(r.old_record()?, r.output(&mut lent.output)?, r.bytes()?),
-        5 => Call::Walk(Kind::Old, r.bytes()?),
-        6 => Call::HexExport(r.output(&mut lent.output)?, r.bytes()?),
-        7 => Call::HexImport(r.output(&mut lent.output)?, r.bytes()?),
-        8 => Call::Walk(Kind::New, r.bytes()?),
-        9 => Call::MoveToNew(r.output(&mut lent.output)?, r.bytes()?),
-        10 => Call::MoveToOld(r.output(&mut lent.output)?, r.bytes()?),
-        11 => Call::ExportLayout(r.shape()?, r.output(&mut lent.output)?),
-        12 => Call::ExportRecord(r.new_record()?, r.output(&mut lent.output)?, r.bytes()?),
-        13 => Call::WriteMany(r.shape()?, r.list(&mut lent.listed)?, r.bytes()?),
-        14 => Call::Judge(r.shape()?, r.bytes()?, r.bytes()?),
-        15 => Call::Resume(r.shape()?, r.number()?, r.bytes()?),
-        16 => Call::ReadPair(r.pair()?, r.bytes()?, r.bytes()?),
-        17 => Call::WritePair(r.pair()?, r.number()?, r.bytes()?, r.bytes()?),
-        _ => return Err(Broken::NoSuchCall),
-    })
+pub fn read_call<'a>(r: &mut Reader<'a>, lent: &'a mut Lent) -> Result<Call<'a>, Broken>
+    ensures { IfOk result Limited }
+{
+    match r.operation()? {
+        1 => Ok(Call::Layout(r.shape()?, r.number()?)),
+        2 => Ok(Call::Read(r.shape()?, r.bytes()?)),
+        3 => Ok(Call::Write(r.shape()?, r.number()?, r.bytes()?)),
+        4 => Ok(Call::Export(r.old_record()?, r.output(&mut lent.output)?, r.bytes()?)),
+        5 => Ok(Call::Walk(Kind::Old, r.bytes()?)),
+        6 => Ok(Call::HexExport(r.output(&mut lent.output)?, r.bytes()?)),
+        7 => Ok(Call::HexImport(r.output(&mut lent.output)?, r.bytes()?)),
+        8 => Ok(Call::Walk(Kind::New, r.bytes()?)),
+        9 => Ok(Call::MoveToNew(r.output(&mut lent.output)?, r.bytes()?)),
+        10 => Ok(Call::MoveToOld(r.output(&mut lent.output)?, r.bytes()?)),
+        11 => Ok(Call::ExportLayout(r.shape()?, r.output(&mut lent.output)?)),
+        12 => Ok(Call::ExportRecord(r.new_record()?, r.output(&mut lent.output)?, r.bytes()?)),
+        13 => Ok(Call::WriteMany(r.shape()?, r.list(&mut lent.listed)?, r.bytes()?)),
+        14 => Ok(Call::Judge(r.shape()?, r.bytes()?, r.bytes()?)),
+        15 => Ok(Call::Resume(r.shape()?, r.number()?, r.bytes()?)),
+        16 => Ok(Call::ReadPair(r.pair()?, r.bytes()?, r.bytes()?)),
+        17 => Ok(Call::WritePair(r.pair()?, r.number()?, r.bytes()?, r.bytes()?)),
+        _ => Err(Broken::NoSuchCall),
+    }
 }

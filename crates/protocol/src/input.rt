@@ -1,7 +1,7 @@
 // Standard input, read into a lent buffer.
-ghost use Rattle.std.specs.Prelude.{◌≡◌, ◌+◌, ◌≤◌, false, length};
+ghost use Rattle.std.specs.Prelude.{◌≡◌, ◌+◌, ◌≤◌, false, length, IfOk};
 ghost use Rattle.protocol.specs.declared.input.TheConstants.{BUFFER_MOST};
-ghost use Rattle.protocol.specs.Bounds.{call_most};
+ghost use Rattle.protocol.specs.Bounds.{call_most, Limited};
 
 use crate::calls;
 use crate::calls::{Broken, Call, Lent};
@@ -40,7 +40,9 @@ impl Input {
         &mut self,
         buffer: &'a mut Buffer,
         lent: &'a mut Lent,
-    ) -> Result<Call<'a>, Broken> {
+    ) -> Result<Call<'a>, Broken>
+        ensures { IfOk result Limited }
+    {
         self.refill(buffer);
         let mut reader = Reader::new(&mut buffer[self.at..self.end]);
         let call = calls::read_call(&mut reader, lent)?;

@@ -1,6 +1,7 @@
 // The bytes of a stream, taken one part after the other. Each number is tested as soon as it is read, so that a call that is both too long and cut off later is
 // too long.
-ghost use Rattle.std.specs.Prelude.{◌≤◌, IfOk};
+ghost use Rattle.std.specs.Prelude.{◌≤◌, length, IfOk};
+ghost use Rattle.protocol.specs.Bounds.{output_most, listed_most};
 
 use crate::calls::{Broken, LISTED_MOST, NewRecord, OUTPUT_MOST, OldRecord};
 use code::{Pair, Shape};
@@ -70,7 +71,9 @@ impl<'a> Reader<'a> {
     }
 
     // The length of an output, and so much of the one that is lent.
-    pub fn output(&mut self, lent: &'a mut [u8; OUTPUT_MOST]) -> Result<&'a mut [u8], Broken> {
+    pub fn output(&mut self, lent: &'a mut [u8; OUTPUT_MOST]) -> Result<&'a mut [u8], Broken>
+        ensures { IfOk result (λ part. length part.now ≤ output_most) }
+    {
         let length = self.count(OUTPUT_MOST)?;
         Ok(&mut lent[..length])
     }
@@ -90,7 +93,9 @@ impl<'a> Reader<'a> {
     }
 
     // A list of numbers, which is put into the places that are lent.
-    pub fn list(&mut self, lent: &'a mut [u64; LISTED_MOST]) -> Result<&'a [u64], Broken> {
+    pub fn list(&mut self, lent: &'a mut [u64; LISTED_MOST]) -> Result<&'a [u64], Broken>
+        ensures { IfOk result (λ part. length part.now ≤ listed_most) }
+    {
         let count = self.numbers(LISTED_MOST, lent)?;
         Ok(&lent[..count])
     }
