@@ -59,15 +59,12 @@ fn of_many(answer: Many) -> Reply {
 }
 
 fn outcomes_of(answer: Many) -> Outcomes {
-    Outcomes {
-        stopped: if answer.stopped == 0 {
-            None
-        } else {
-            Some(answer.field)
-        },
-        count: answer.written as usize,
-        rows: answer.rows,
-    }
+    let stopped = if answer.stopped == 0 {
+        None
+    } else {
+        Some(answer.field)
+    };
+    Outcomes::new(stopped, answer.written, answer.rows)
 }
 
 pub fn put_many(text: &mut Text, shape: Shape, numbers: &[u64], cells: &mut [u8]) -> fmt::Result {

@@ -4,6 +4,9 @@
 pub mod output;
 pub mod replies;
 
+ghost use Rattle.std.specs.Prelude.{◌≡◌, ◌≤◌, min};
+ghost use Rattle.lines.specs.Bounds.{outcomes_most};
+
 use std::fmt;
 
 // Numbers, each behind a space.
@@ -50,13 +53,36 @@ impl<'a> fmt::Display for Groups<'a> {
     }
 }
 
-// What became of the fields of a write of many numbers: at which it stopped, where it did; of so many, but of 64 at most, the generation and, 64 places behind
-// it, how many wits turned.
+// The most fields of a write of many numbers that are told.
+const OUTCOMES_MOST: usize = 64;
+
+// What became of the fields of a write of many numbers: at which it stopped, where it did; of so many the generation and, 64 places behind it, how many wits
+// turned.
 #[derive(Clone, Copy)]
 pub struct Outcomes {
     pub stopped: Option<u64>,
     pub count: usize,
     pub rows: [u16; 128],
+    ghost few: { count ≤ outcomes_most },
+}
+
+impl Outcomes {
+    // Of so many fields, but of no more than there are places for.
+    pub fn new(stopped: Option<u64>, written: u64, rows: [u16; 128]) -> Outcomes
+        ensures told { result.count ≡ min written outcomes_most }
+        ensures kept { (result.stopped ≡ stopped) × (result.rows ≡ rows) }
+    {
+        let count = if written < OUTCOMES_MOST as u64 {
+            written as usize
+        } else {
+            OUTCOMES_MOST
+        };
+        Outcomes {
+            stopped,
+            count,
+            rows,
+        }
+    }
 }
 
 impl fmt::Display for Outcomes {
@@ -64,7 +90,7 @@ impl fmt::Display for Outcomes {
         if let Some(field) = self.stopped {
             write!(f, " field {field}")?;
         }
-        let (generations, turned) = self.rows.split_at(64);
+        let (generations, turned) = self.rows.split_at(OUTCOMES_MOST);
         for (generation, wits) in generations.iter().zip(turned).take(self.count) {
             write!(f, " {generation} {wits}")?;
         }
