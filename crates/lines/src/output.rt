@@ -5,10 +5,10 @@ ghost use Rattle.lines.specs.declared.output.TheConstants.{TEXT_MOST};
 use std::fmt;
 use std::io::{Stdout, Write};
 
-const TEXT_MOST: usize = 8192;
+pub const TEXT_MOST: usize = 8192;
 
 // Standard output, and the bytes that are gathered for it: the first so many.
-#[derive(Drop)]
+#[derive(Clone, Copy)]
 pub struct Text {
     stdout: Stdout,
     bytes: [u8; TEXT_MOST],
