@@ -45,8 +45,8 @@ fn main(rt: HostRuntime) -> fmt::Result {
 // A proved loop has to end, and nothing says that a stream does: the turns are counted, up to a number that no run uses up.
 fn answer_all(mut input: Input, mut text: Text) -> fmt::Result {
     let mut buffer = [0u8; input::BUFFER_MOST];
+    let mut lent = Lent::new();
     for _ in 0..u64::MAX {
-        let mut lent = Lent::new();
         match input.next_call(&mut buffer, &mut lent) {
             Ok(call) => answer(&mut text, call)?,
             Err(Broken::Ended) => break,

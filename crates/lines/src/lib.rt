@@ -4,10 +4,10 @@
 pub mod output;
 pub mod replies;
 
-ghost use Rattle.std.specs.Prelude.{◌≡◌, ◌≤◌, min};
+ghost use Rattle.std.specs.Prelude.{◌≡◌, ◌<◌, ◌≤◌, min, length, IsAscii};
 ghost use Rattle.lines.specs.Bounds.{outcomes_most};
 
-use std::fmt;
+use std::{fmt, str};
 
 // Numbers, each behind a space.
 #[derive(Clone, Copy)]
@@ -31,11 +31,37 @@ impl<'a> fmt::Display for Hex<'a> {
         if !self.0.is_empty() {
             f.write_str(" ")?;
         }
-        for byte in self.0 {
-            write!(f, "{byte:02x}")?;
+        for part in self.0.chunks(PART_MOST) {
+            let digits = digits_of(part);
+            f.write_str(str::from_utf8(&digits[..2 * part.len()]).unwrap())?;
         }
         Ok(())
     }
+}
+
+// The bytes that are written at once, and their digits.
+const PART_MOST: usize = 32;
+
+const DIGITS_MOST: usize = 64;
+
+// Two digits for each byte, with zeros behind them.
+fn digits_of(bytes: &[u8]) -> [u8; DIGITS_MOST]
+    requires { length bytes.now ≤ PART_MOST }
+    ensures { IsAscii result }
+{
+    let mut digits = [0; DIGITS_MOST];
+    for (i, byte) in bytes.iter().enumerate() {
+        digits[2 * i] = digit(byte / 16);
+        digits[2 * i + 1] = digit(byte % 16);
+    }
+    digits
+}
+
+fn digit(x: u8) -> u8
+    requires { x < 16 }
+    ensures { result < 128 }
+{
+    if x < 10 { b'0' + x } else { b'a' + (x - 10) }
 }
 
 // The numbers of the groups whose bits are set, rising, each behind a space.

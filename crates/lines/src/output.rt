@@ -1,5 +1,5 @@
 // Text for standard output, gathered and written whenever no byte more fits.
-ghost use Rattle.std.specs.Prelude.{◌≡◌, ◌≤◌};
+ghost use Rattle.std.specs.Prelude.{◌≡◌, ◌+◌, ◌≤◌, length};
 ghost use Rattle.lines.specs.declared.output.TheConstants.{TEXT_MOST};
 
 use std::fmt;
@@ -38,20 +38,26 @@ impl Text {
         self.count = 0;
     }
 
-    fn push(&mut self, byte: u8) {
-        if self.count == TEXT_MOST {
-            self.write_out();
-        }
-        self.bytes[self.count] = byte;
-        self.count += 1;
+    // A piece for which there is room behind what is gathered.
+    fn gather(&mut self, piece: &[u8])
+        requires { self.old.count + length piece.now ≤ TEXT_MOST }
+    {
+        let end = self.count + piece.len();
+        self.bytes[self.count..end].copy_from_slice(piece);
+        self.count = end;
     }
 }
 
 impl fmt::Write for Text {
     fn write_str(&mut self, piece: &str) -> fmt::Result {
-        for byte in piece.as_bytes() {
-            self.push(*byte);
+        let mut rest = piece.as_bytes();
+        while TEXT_MOST - self.count < rest.len() {
+            let (fitting, behind) = rest.split_at(TEXT_MOST - self.count);
+            self.gather(fitting);
+            self.write_out();
+            rest = behind;
         }
+        self.gather(rest);
         Ok(())
     }
 }

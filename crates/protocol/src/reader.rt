@@ -1,6 +1,6 @@
 // The bytes of a stream, taken one part after the other. Each number is tested as soon as it is read, so that a call that is both too long and cut off later is
 // too long.
-ghost use Rattle.std.specs.Prelude.{◌≤◌, length, IfOk};
+ghost use Rattle.std.specs.Prelude.{◌≡◌, ◌≤◌, length, replicate, IfOk};
 ghost use Rattle.protocol.specs.Bounds.{output_most, listed_most};
 
 use crate::calls::{Broken, LISTED_MOST, NewRecord, OUTPUT_MOST, OldRecord};
@@ -70,12 +70,15 @@ impl<'a> Reader<'a> {
         self.part(count)
     }
 
-    // The length of an output, and so much of the one that is lent.
+    // The length of an output, and so much of the one that is lent, filled with A5.
     pub fn output(&mut self, lent: &'a mut [u8; OUTPUT_MOST]) -> Result<&'a mut [u8], Broken>
-        ensures { IfOk result (λ part. length part.now ≤ output_most) }
+        ensures limited { IfOk result (λ part. length part.now ≤ output_most) }
+        ensures filled { IfOk result (λ part. part.now ≡ replicate (length part.now) 165) }
     {
         let length = self.count(OUTPUT_MOST)?;
-        Ok(&mut lent[..length])
+        let output = &mut lent[..length];
+        output.fill(0xa5);
+        Ok(output)
     }
 
     // A count and so many numbers, of which those are kept that there are places for.
