@@ -198,7 +198,7 @@ pub fn check_text(text: &[u8]) -> Result<usize, Refusal>
 }
 
 // The number of a character that is a digit: letters stand 64 and 96 on in the code, and count from 1. A small number for any other. The second pass reads by
-// this formula what the first has tested: with `digit_number`, which tests every digit again, an import misses its bar in time.
+// this formula what the first has tested: with `digit_number`, which tests every digit again, an import misses its bar in time (b).
 fn known_digit(c: u8) -> u8
     ensures { (digit_number c < 16 → result ≡ digit_number c) × (result ≤ 42) }
 {
