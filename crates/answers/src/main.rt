@@ -31,6 +31,9 @@ mod fields;
 mod stored;
 mod walks;
 
+ghost use Rattle.std.specs.Prelude.{◌≡◌, ◌≤◌, length, replicate};
+ghost use Rattle.protocol.specs.Bounds.{Limited};
+
 use lines::output::Text;
 use protocol::calls::{Broken, Call, Lent};
 use protocol::input;
@@ -48,7 +51,7 @@ fn answer_all(mut input: Input, mut text: Text) -> fmt::Result {
     let mut lent = Lent::new();
     for _ in 0..u64::MAX {
         match input.next_call(&mut buffer, &mut lent) {
-            Ok(call) => answer(&mut text, call)?,
+            Ok(call) => answer(&mut text, call, &mut lent)?,
             Err(Broken::Ended) => break,
             Err(why) => {
                 writeln!(text, "{why}")?;
@@ -60,27 +63,71 @@ fn answer_all(mut input: Input, mut text: Text) -> fmt::Result {
     Ok(())
 }
 
-fn answer(text: &mut Text, call: Call<'_>) -> fmt::Result {
+// What a call is lent for its output is filled with A5.
+fn filled(output: &mut [u8], count: usize) -> &mut [u8]
+    requires { count ≤ length output.old }
+    ensures { result.now ≡ replicate count 165 }
+{
+    let part = &mut output[..count];
+    part.fill(0xa5);
+    part
+}
+
+// Bytes that a call changes are copied, and it is lent the copy.
+fn copied<'a>(bytes: &[u8], room: &'a mut [u8]) -> &'a mut [u8]
+    requires { length bytes.now ≤ length room.old }
+    ensures { result.now ≡ bytes.now }
+{
+    let copy = &mut room[..bytes.len()];
+    copy.copy_from_slice(bytes);
+    copy
+}
+
+fn answer(text: &mut Text, call: Call<'_>, lent: &mut Lent) -> fmt::Result
+    requires { Limited call }
+{
     match call {
         Call::Layout(shape, g) => fields::put_layout(text, shape, g),
         Call::Read(shape, cells) => fields::put_read(text, shape, cells),
-        Call::Write(shape, number, cells) => fields::put_write(text, shape, number, cells),
-        Call::Export(record, output, cells) => stored::put_export(text, record, cells, output),
+        Call::Write(shape, number, cells) => {
+            fields::put_write(text, shape, number, copied(cells, &mut lent.copies))
+        }
+        Call::Export(record, room, cells) => {
+            stored::put_export(text, record, cells, filled(&mut lent.output, room))
+        }
         Call::Walk(kind, dump) => walks::put_walk(text, kind, dump),
-        Call::HexExport(output, bytes) => stored::put_hex(text, bytes, output),
-        Call::HexImport(output, bytes) => stored::put_unhex(text, bytes, output),
-        Call::MoveToNew(output, dump) => stored::put_new(text, dump, output),
-        Call::MoveToOld(output, dump) => stored::put_old(text, dump, output),
-        Call::ExportLayout(shape, output) => stored::put_listed(text, shape, output),
-        Call::ExportRecord(record, output, cells) => stored::put_record(
-            text, record, cells, output,
-        ),
-        Call::WriteMany(shape, numbers, cells) => fields::put_many(text, shape, numbers, cells),
+        Call::HexExport(room, bytes) => {
+            stored::put_hex(text, bytes, filled(&mut lent.output, room))
+        }
+        Call::HexImport(room, bytes) => {
+            stored::put_unhex(text, bytes, filled(&mut lent.output, room))
+        }
+        Call::MoveToNew(room, dump) => stored::put_new(text, dump, filled(&mut lent.output, room)),
+        Call::MoveToOld(room, dump) => stored::put_old(text, dump, filled(&mut lent.output, room)),
+        Call::ExportLayout(shape, room) => {
+            stored::put_listed(text, shape, filled(&mut lent.output, room))
+        }
+        Call::ExportRecord(record, room, cells) => {
+            stored::put_record(text, record, cells, filled(&mut lent.output, room))
+        }
+        Call::WriteMany(shape, count, cells) => {
+            let copy = copied(cells, &mut lent.copies);
+            fields::put_many(text, shape, &lent.listed[..count], copy)
+        }
         Call::Judge(shape, before, after) => fields::put_judge(text, shape, before, after),
-        Call::Resume(shape, number, cells) => fields::put_resume(text, shape, number, cells),
+        Call::Resume(shape, number, cells) => {
+            fields::put_resume(text, shape, number, copied(cells, &mut lent.copies))
+        }
         Call::ReadPair(pair, first, second) => fields::put_pair_read(text, pair, first, second),
         Call::WritePair(pair, number, first, second) => {
-            fields::put_pair_write(text, pair, number, first, second)
+            let (front, behind) = lent.copies.split_at_mut(first.len());
+            fields::put_pair_write(
+                text,
+                pair,
+                number,
+                copied(first, front),
+                copied(second, behind),
+            )
         }
     }
 }

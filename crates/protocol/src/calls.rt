@@ -1,6 +1,6 @@
 // Calls as they stand in the stream. The byte in front says which it is, and is looked at nowhere else.
 ghost use Rattle.std.specs.Prelude.{◌≡◌, length, IfOk};
-ghost use Rattle.protocol.specs.Bounds.{output_most, listed_most, Limited};
+ghost use Rattle.protocol.specs.Bounds.{bytes_most, output_most, listed_most, Limited};
 
 use crate::reader::Reader;
 use code::{Kind, Pair, Shape};
@@ -12,20 +12,25 @@ pub const OUTPUT_MOST: usize = 1024;
 // The most numbers that a call lists.
 pub const LISTED_MOST: usize = 128;
 
-// What a call is lent: places for the numbers that it lists, and its output, which is filled with A5.
+// The most bytes of a call, in one string or in two: a dump one byte too long to be walked still fits.
+pub const BYTES_MOST: usize = 65537;
+
+// What a call is lent: places for the numbers that it lists, its output, and room for a copy of the bytes that it changes.
 #[derive(Drop)]
 pub struct Lent {
     pub listed: [u64; LISTED_MOST],
     pub output: [u8; OUTPUT_MOST],
+    pub copies: [u8; BYTES_MOST],
 }
 
 impl Lent {
     pub fn new() -> Lent
-        ensures { (length result.listed ≡ listed_most) × (length result.output ≡ output_most) }
+        ensures { (length result.listed ≡ listed_most) × (length result.output ≡ output_most) × (length result.copies ≡ bytes_most) }
     {
         Lent {
             listed: [0; LISTED_MOST],
             output: [0xa5; OUTPUT_MOST],
+            copies: [0; BYTES_MOST],
         }
     }
 }
@@ -67,44 +72,45 @@ pub struct NewRecord {
     pub shape: Shape,
 }
 
-// A call, with its parts in the order of the stream; an output, the length of which stands there, is lent.
-#[derive(Drop)]
+// A call, with its parts in the order of the stream; of an output there is the length, and of a list of numbers, which are put into the places that are lent,
+// how many they are.
+#[derive(Clone, Copy)]
 pub enum Call<'a> {
     Layout(Shape, u64),
     Read(Shape, &'a [u8]),
-    Write(Shape, u64, &'a mut [u8]),
-    Export(OldRecord, &'a mut [u8], &'a [u8]),
+    Write(Shape, u64, &'a [u8]),
+    Export(OldRecord, usize, &'a [u8]),
     Walk(Kind, &'a [u8]),
-    HexExport(&'a mut [u8], &'a [u8]),
-    HexImport(&'a mut [u8], &'a [u8]),
-    MoveToNew(&'a mut [u8], &'a [u8]),
-    MoveToOld(&'a mut [u8], &'a [u8]),
-    ExportLayout(Shape, &'a mut [u8]),
-    ExportRecord(NewRecord, &'a mut [u8], &'a [u8]),
-    WriteMany(Shape, &'a [u64], &'a mut [u8]),
+    HexExport(usize, &'a [u8]),
+    HexImport(usize, &'a [u8]),
+    MoveToNew(usize, &'a [u8]),
+    MoveToOld(usize, &'a [u8]),
+    ExportLayout(Shape, usize),
+    ExportRecord(NewRecord, usize, &'a [u8]),
+    WriteMany(Shape, usize, &'a [u8]),
     Judge(Shape, &'a [u8], &'a [u8]),
-    Resume(Shape, u64, &'a mut [u8]),
+    Resume(Shape, u64, &'a [u8]),
     ReadPair(Pair, &'a [u8], &'a [u8]),
-    WritePair(Pair, u64, &'a mut [u8], &'a mut [u8]),
+    WritePair(Pair, u64, &'a [u8], &'a [u8]),
 }
 
 // The call that comes next.
-pub fn read_call<'a>(r: &mut Reader<'a>, lent: &'a mut Lent) -> Result<Call<'a>, Broken>
+pub fn read_call<'a>(r: &mut Reader<'a>, lent: &mut Lent) -> Result<Call<'a>, Broken>
     ensures { IfOk result Limited }
 {
     match r.operation()? {
         1 => Ok(Call::Layout(r.shape()?, r.number()?)),
         2 => Ok(Call::Read(r.shape()?, r.bytes()?)),
         3 => Ok(Call::Write(r.shape()?, r.number()?, r.bytes()?)),
-        4 => Ok(Call::Export(r.old_record()?, r.output(&mut lent.output)?, r.bytes()?)),
+        4 => Ok(Call::Export(r.old_record()?, r.output()?, r.bytes()?)),
         5 => Ok(Call::Walk(Kind::Old, r.bytes()?)),
-        6 => Ok(Call::HexExport(r.output(&mut lent.output)?, r.bytes()?)),
-        7 => Ok(Call::HexImport(r.output(&mut lent.output)?, r.bytes()?)),
+        6 => Ok(Call::HexExport(r.output()?, r.bytes()?)),
+        7 => Ok(Call::HexImport(r.output()?, r.bytes()?)),
         8 => Ok(Call::Walk(Kind::New, r.bytes()?)),
-        9 => Ok(Call::MoveToNew(r.output(&mut lent.output)?, r.bytes()?)),
-        10 => Ok(Call::MoveToOld(r.output(&mut lent.output)?, r.bytes()?)),
-        11 => Ok(Call::ExportLayout(r.shape()?, r.output(&mut lent.output)?)),
-        12 => Ok(Call::ExportRecord(r.new_record()?, r.output(&mut lent.output)?, r.bytes()?)),
+        9 => Ok(Call::MoveToNew(r.output()?, r.bytes()?)),
+        10 => Ok(Call::MoveToOld(r.output()?, r.bytes()?)),
+        11 => Ok(Call::ExportLayout(r.shape()?, r.output()?)),
+        12 => Ok(Call::ExportRecord(r.new_record()?, r.output()?, r.bytes()?)),
         13 => Ok(Call::WriteMany(r.shape()?, r.list(&mut lent.listed)?, r.bytes()?)),
         14 => Ok(Call::Judge(r.shape()?, r.bytes()?, r.bytes()?)),
         15 => Ok(Call::Resume(r.shape()?, r.number()?, r.bytes()?)),

@@ -39,12 +39,12 @@ impl Input {
     pub fn next_call<'a>(
         &mut self,
         buffer: &'a mut Buffer,
-        lent: &'a mut Lent,
+        lent: &mut Lent,
     ) -> Result<Call<'a>, Broken>
         ensures { IfOk result Limited }
     {
         self.refill(buffer);
-        let mut reader = Reader::new(&mut buffer[self.at..self.end]);
+        let mut reader = Reader::new(&buffer[self.at..self.end]);
         let call = calls::read_call(&mut reader, lent)?;
         // What the reader has left ends where the input read so far does.
         self.at = self.end.saturating_sub(reader.left());

@@ -1,28 +1,25 @@
 // The bytes of a stream, taken one part after the other. Each number is tested as soon as it is read, so that a call that is both too long and cut off later is
 // too long.
-ghost use Rattle.std.specs.Prelude.{◌≡◌, ◌≤◌, length, replicate, IfOk};
-ghost use Rattle.protocol.specs.Bounds.{output_most, listed_most};
+ghost use Rattle.std.specs.Prelude.{◌≡◌, ◌+◌, ◌≤◌, length, IfOk};
+ghost use Rattle.protocol.specs.Bounds.{bytes_most, output_most, listed_most};
 
-use crate::calls::{Broken, LISTED_MOST, NewRecord, OUTPUT_MOST, OldRecord};
+use crate::calls::{BYTES_MOST, Broken, LISTED_MOST, NewRecord, OUTPUT_MOST, OldRecord};
 use code::{Pair, Shape};
-use std::mem;
-
-// A dump one byte too long to be walked still fits in a call.
-const BYTES_MOST: usize = 65537;
 
 // The most ranges of a shape that are read; more than 16 are refused by every call.
 const RANGES_MOST: usize = 64;
 
 // What is not yet taken of a call and of what stands behind it.
-#[derive(Drop)]
+#[derive(Clone, Copy)]
 pub struct Reader<'a> {
-    rest: &'a mut [u8],
+    rest: &'a [u8],
     // The most bytes that a count may still name: two of them share the limit.
     most: usize,
+    ghost limited: { most ≤ bytes_most },
 }
 
 impl<'a> Reader<'a> {
-    pub fn new(bytes: &'a mut [u8]) -> Reader<'a> {
+    pub fn new(bytes: &'a [u8]) -> Reader<'a> {
         Reader {
             rest: bytes,
             most: BYTES_MOST,
@@ -36,13 +33,13 @@ impl<'a> Reader<'a> {
 
     // The byte that a call begins with.
     pub fn operation(&mut self) -> Result<u8, Broken> {
-        let operation = self.rest.split_off_first_mut().ok_or(Broken::Ended)?;
+        let (operation, behind) = self.rest.split_first().ok_or(Broken::Ended)?;
+        self.rest = behind;
         Ok(*operation)
     }
 
     pub fn number(&mut self) -> Result<u64, Broken> {
-        let rest = mem::take(&mut self.rest);
-        let (number, behind) = rest.split_first_chunk_mut::<8>().ok_or(Broken::CutOff)?;
+        let (number, behind) = self.rest.split_first_chunk::<8>().ok_or(Broken::CutOff)?;
         self.rest = behind;
         Ok(u64::from_le_bytes(*number))
     }
@@ -58,27 +55,30 @@ impl<'a> Reader<'a> {
         Ok(count as usize)
     }
 
-    fn part(&mut self, count: usize) -> Result<&'a mut [u8], Broken> {
-        self.rest.split_off_mut(..count).ok_or(Broken::CutOff)
+    fn part(&mut self, count: usize) -> Result<&'a [u8], Broken>
+        ensures { IfOk result (λ part. length part.now ≡ count) }
+    {
+        let (part, behind) = self.rest.split_at_checked(count).ok_or(Broken::CutOff)?;
+        self.rest = behind;
+        Ok(part)
     }
 
     // A count and so many bytes.
-    pub fn bytes(&mut self) -> Result<&'a mut [u8], Broken> {
+    pub fn bytes(&mut self) -> Result<&'a [u8], Broken>
+        ensures { IfOk result (λ part. length part.now + self.new.most ≡ self.old.most) }
+    {
         let most = self.most;
         let count = self.count(most)?;
+        let part = self.part(count)?;
         self.most = most - count;
-        self.part(count)
+        Ok(part)
     }
 
-    // The length of an output, and so much of the one that is lent, filled with A5.
-    pub fn output(&mut self, lent: &'a mut [u8; OUTPUT_MOST]) -> Result<&'a mut [u8], Broken>
-        ensures limited { IfOk result (λ part. length part.now ≤ output_most) }
-        ensures filled { IfOk result (λ part. part.now ≡ replicate (length part.now) 165) }
+    // The length of an output.
+    pub fn output(&mut self) -> Result<usize, Broken>
+        ensures { IfOk result (λ length. length ≤ output_most) }
     {
-        let length = self.count(OUTPUT_MOST)?;
-        let output = &mut lent[..length];
-        output.fill(0xa5);
-        Ok(output)
+        self.count(OUTPUT_MOST)
     }
 
     // A count and so many numbers, of which those are kept that there are places for.
@@ -95,12 +95,11 @@ impl<'a> Reader<'a> {
         Ok(count)
     }
 
-    // A list of numbers, which is put into the places that are lent.
-    pub fn list(&mut self, lent: &'a mut [u64; LISTED_MOST]) -> Result<&'a [u64], Broken>
-        ensures { IfOk result (λ part. length part.now ≤ listed_most) }
+    // A list of numbers, which is put into the places that are lent, by their count.
+    pub fn list(&mut self, lent: &mut [u64; LISTED_MOST]) -> Result<usize, Broken>
+        ensures { IfOk result (λ count. count ≤ listed_most) }
     {
-        let count = self.numbers(LISTED_MOST, lent)?;
-        Ok(&lent[..count])
+        self.numbers(LISTED_MOST, lent)
     }
 
     pub fn shape(&mut self) -> Result<Shape, Broken> {
