@@ -34,12 +34,16 @@ mod walks;
 ghost use Rattle.std.specs.Prelude.{◌≡◌, ◌≤◌, length, replicate};
 ghost use Rattle.protocol.specs.Bounds.{Limited};
 
+use fields::{
+    put_judge, put_layout, put_many, put_pair_read, put_pair_write, put_read, put_resume, put_write,
+};
 use lines::output::Text;
-use protocol::calls::{Broken, Call, Lent};
-use protocol::input;
+use protocol::calls::{Broken, Call, Copies, Lent};
 use protocol::input::Input;
+use protocol::{calls, input};
 use std::fmt;
 use std::fmt::Write;
+use stored::{put_export, put_hex, put_listed, put_new, put_old, put_record, put_unhex};
 
 fn main(rt: HostRuntime) -> fmt::Result {
     answer_all(Input::new(rt.stdin()), Text::new(rt.stdout()))
@@ -48,10 +52,11 @@ fn main(rt: HostRuntime) -> fmt::Result {
 // A proved loop has to end, and nothing says that a stream does: the turns are counted, up to a number that no run uses up.
 fn answer_all(mut input: Input, mut text: Text) -> fmt::Result {
     let mut buffer = [0u8; input::BUFFER_MOST];
+    let mut copies = [0u8; calls::BYTES_MOST];
     let mut lent = Lent::new();
     for _ in 0..u64::MAX {
         match input.next_call(&mut buffer, &mut lent) {
-            Ok(call) => answer(&mut text, call, &mut lent)?,
+            Ok(call) => answer(&mut text, call, &mut lent, &mut copies)?,
             Err(Broken::Ended) => break,
             Err(why) => {
                 writeln!(text, "{why}")?;
@@ -73,8 +78,8 @@ fn filled(output: &mut [u8], count: usize) -> &mut [u8]
     part
 }
 
-// Bytes that a call changes are copied, and it is lent the copy.
-fn copied<'a>(bytes: &[u8], room: &'a mut [u8]) -> &'a mut [u8]
+// Bytes that a call changes are put into room of its own, and it is lent that.
+fn aside<'a>(bytes: &[u8], room: &'a mut [u8]) -> &'a mut [u8]
     requires { length bytes.now ≤ length room.old }
     ensures { result.now ≡ bytes.now }
 {
@@ -83,50 +88,38 @@ fn copied<'a>(bytes: &[u8], room: &'a mut [u8]) -> &'a mut [u8]
     copy
 }
 
-fn answer(text: &mut Text, call: Call<'_>, lent: &mut Lent) -> fmt::Result
+fn answer(text: &mut Text, call: Call<'_>, lent: &mut Lent, copies: &mut Copies) -> fmt::Result
     requires { Limited call }
 {
+    let output = &mut lent.output;
     match call {
-        Call::Layout(shape, g) => fields::put_layout(text, shape, g),
-        Call::Read(shape, cells) => fields::put_read(text, shape, cells),
-        Call::Write(shape, number, cells) => {
-            fields::put_write(text, shape, number, copied(cells, &mut lent.copies))
-        }
-        Call::Export(record, room, cells) => {
-            stored::put_export(text, record, cells, filled(&mut lent.output, room))
-        }
+        Call::Layout(shape, g) => put_layout(text, shape, g),
+        Call::Read(shape, cells) => put_read(text, shape, cells),
+        Call::Write(shape, number, cells) => put_write(text, shape, number, aside(cells, copies)),
+        Call::Export(record, room, cells) => put_export(text, record, cells, filled(output, room)),
         Call::Walk(kind, dump) => walks::put_walk(text, kind, dump),
-        Call::HexExport(room, bytes) => {
-            stored::put_hex(text, bytes, filled(&mut lent.output, room))
-        }
-        Call::HexImport(room, bytes) => {
-            stored::put_unhex(text, bytes, filled(&mut lent.output, room))
-        }
-        Call::MoveToNew(room, dump) => stored::put_new(text, dump, filled(&mut lent.output, room)),
-        Call::MoveToOld(room, dump) => stored::put_old(text, dump, filled(&mut lent.output, room)),
-        Call::ExportLayout(shape, room) => {
-            stored::put_listed(text, shape, filled(&mut lent.output, room))
-        }
+        Call::HexExport(room, bytes) => put_hex(text, bytes, filled(output, room)),
+        Call::HexImport(room, bytes) => put_unhex(text, bytes, filled(output, room)),
+        Call::MoveToNew(room, dump) => put_new(text, dump, filled(output, room)),
+        Call::MoveToOld(room, dump) => put_old(text, dump, filled(output, room)),
+        Call::ExportLayout(shape, room) => put_listed(text, shape, filled(output, room)),
         Call::ExportRecord(record, room, cells) => {
-            stored::put_record(text, record, cells, filled(&mut lent.output, room))
+            put_record(text, record, cells, filled(output, room))
         }
         Call::WriteMany(shape, count, cells) => {
-            let copy = copied(cells, &mut lent.copies);
-            fields::put_many(text, shape, &lent.listed[..count], copy)
+            put_many(text, shape, &lent.listed[..count], aside(cells, copies))
         }
-        Call::Judge(shape, before, after) => fields::put_judge(text, shape, before, after),
-        Call::Resume(shape, number, cells) => {
-            fields::put_resume(text, shape, number, copied(cells, &mut lent.copies))
-        }
-        Call::ReadPair(pair, first, second) => fields::put_pair_read(text, pair, first, second),
+        Call::Judge(shape, before, after) => put_judge(text, shape, before, after),
+        Call::Resume(shape, number, cells) => put_resume(text, shape, number, aside(cells, copies)),
+        Call::ReadPair(pair, first, second) => put_pair_read(text, pair, first, second),
         Call::WritePair(pair, number, first, second) => {
-            let (front, behind) = lent.copies.split_at_mut(first.len());
-            fields::put_pair_write(
+            let (front, behind) = copies.split_at_mut(first.len());
+            put_pair_write(
                 text,
                 pair,
                 number,
-                copied(first, front),
-                copied(second, behind),
+                aside(first, front),
+                aside(second, behind),
             )
         }
     }

@@ -115,8 +115,8 @@ fn put_records(text: &mut Text, dump: Dump<'_>, rows: &[u64], count: usize) -> f
     Ok(())
 }
 
-// What stands in a row behind its head: the first range, where the cells start, how many they are, and the five numbers of the reply to reading them.
-const TAIL: usize = 8;
+// What stands in a row behind its head: the first range, where the cells start, how many they are, and the reply to reading them.
+const TAIL: usize = 3 + lines::REPLY;
 
 // The line of a record: the head of its row, all its ranges, where its cells stand, and the reply to reading them.
 fn put_record(text: &mut Text, dump: Dump<'_>, row: &[u64]) -> fmt::Result

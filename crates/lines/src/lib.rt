@@ -9,6 +9,9 @@ ghost use Rattle.lines.specs.Bounds.{outcomes_most};
 
 use std::{fmt, str};
 
+// The numbers of a row that are the reply to reading the record's cells.
+pub const REPLY: usize = 5;
+
 // Numbers, each behind a space.
 #[derive(Clone, Copy)]
 pub struct Numbers<'a>(pub &'a [u64]);

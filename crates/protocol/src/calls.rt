@@ -1,6 +1,6 @@
 // Calls as they stand in the stream. The byte in front says which it is, and is looked at nowhere else.
 ghost use Rattle.std.specs.Prelude.{◌≡◌, length, IfOk};
-ghost use Rattle.protocol.specs.Bounds.{bytes_most, output_most, listed_most, Limited};
+ghost use Rattle.protocol.specs.Bounds.{output_most, listed_most, Limited};
 
 use crate::reader::Reader;
 use code::{Kind, Pair, Shape};
@@ -15,22 +15,23 @@ pub const LISTED_MOST: usize = 128;
 // The most bytes of a call, in one string or in two: a dump one byte too long to be walked still fits.
 pub const BYTES_MOST: usize = 65537;
 
-// What a call is lent: places for the numbers that it lists, its output, and room for a copy of the bytes that it changes.
+// Room for a copy of them.
+pub type Copies = [u8; BYTES_MOST];
+
+// What a call is lent beside room for a copy of the bytes that it changes: places for the numbers that it lists, and its output.
 #[derive(Drop)]
 pub struct Lent {
     pub listed: [u64; LISTED_MOST],
     pub output: [u8; OUTPUT_MOST],
-    pub copies: [u8; BYTES_MOST],
 }
 
 impl Lent {
     pub fn new() -> Lent
-        ensures { (length result.listed ≡ listed_most) × (length result.output ≡ output_most) × (length result.copies ≡ bytes_most) }
+        ensures { (length result.listed ≡ listed_most) × (length result.output ≡ output_most) }
     {
         Lent {
             listed: [0; LISTED_MOST],
-            output: [0xa5; OUTPUT_MOST],
-            copies: [0; BYTES_MOST],
+            output: [0; OUTPUT_MOST],
         }
     }
 }

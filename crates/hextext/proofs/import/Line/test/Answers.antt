@@ -30,12 +30,14 @@ pub returns-then-is_end : goal.returns-then-is_end
 returns-then-is_end c =
     let m = c.requires.0 in
     let known : c.args.self.kind ≤ 1 = omega (arith, end-type _ (sym c.if-is_end.ensures), m.type-told) in
-    (measured-passes m _ c.if-is_laden_end.ensures c.if-self-ne0.false c.if-is_displaced.ensures known, sym c.if-is_end.ensures, measured-spans m)
+    let passes = measured-passes m _ c.if-is_laden_end.ensures c.if-self-ne0.false c.if-is_displaced.ensures known in
+    (passes, sym c.if-is_end.ensures, measured-spans m)
 
 pub returns-in-0 : goal.returns-in-0
 returns-in-0 c =
     let m = c.requires.0 in
-    (measured-passes m _ c.if-is_laden_end.ensures c.if-self-ne0.false c.if-is_displaced.ensures (omega arith), sym c.if-is_end.ensures, m.count-told, measured-spans m)
+    let passes = measured-passes m _ c.if-is_laden_end.ensures c.if-self-ne0.false c.if-is_displaced.ensures (omega arith) in
+    (passes, sym c.if-is_end.ensures, m.count-told, measured-spans m)
 
 pub returns-in_default : goal.returns-in_default
 returns-in_default c =
