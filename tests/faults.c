@@ -1,12 +1,13 @@
 /*
- * read and write as a system may let them go: interrupted, short, failing. tools/run --preload puts them in front of the C
- * library's. What is done to calls on standard input stands in READS of the environment, to those on standard output in
- * WRITES, as four numbers:
+ * read and write as a system may let them go: interrupted, idle, short, failing. tools/run --preload puts them in front of
+ * the C library's. What is done to calls on standard input stands in READS of the environment, to those on standard output in
+ * WRITES, as five numbers:
  *
  *     interrupted    so many calls fail with EINTR before each one that goes through
  *     most           a call that goes through moves no more bytes than these
  *     good           when so many calls have gone through,
  *     error          the next one fails with this number, where it is not 0, and those behind it go through again
+ *     idle           so many calls move nothing and say so before each one that goes through; of a read that is the end
  *
  * At the end a line with four numbers goes to the descriptor that TOLD names: the calls that were interrupted and those that
  * went through, of standard input and of standard output.
@@ -22,7 +23,7 @@
 struct faults {
     const char *name;
     long number;
-    unsigned long interrupted, most, good, error;
+    unsigned long interrupted, most, good, error, idle;
     unsigned long in_a_row, interruptions, passed;
 };
 
@@ -31,7 +32,7 @@ static struct faults faults[2] = {{.name = "READS", .number = SYS_read}, {.name 
 __attribute__((constructor)) static void take_faults(void)
 {
     for (struct faults *f = faults; f < faults + 2; f++)
-        if (sscanf(getenv(f->name), "%lu %lu %lu %lu", &f->interrupted, &f->most, &f->good, &f->error) != 4)
+        if (sscanf(getenv(f->name), "%lu %lu %lu %lu %lu", &f->interrupted, &f->most, &f->good, &f->error, &f->idle) != 5)
             abort();
 }
 
@@ -53,6 +54,10 @@ static ssize_t moved(struct faults *f, int descriptor, const void *bytes, size_t
         f->in_a_row++;
         f->interruptions++;
         return failed(EINTR);
+    }
+    if (f->in_a_row < f->interrupted + f->idle) {
+        f->in_a_row++;
+        return 0;
     }
     f->in_a_row = 0;
     if (f->error != 0 && f->passed == f->good) {
